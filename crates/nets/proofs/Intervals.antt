@@ -1,0 +1,111 @@
+-- Nets by their intervals' numbers, and nets whose places lie apart.
+use mathlib.Core.Path.{_≡_, refl, sym, ap, subst, _∙_}
+use mathlib.Core.Bool.{Bool, true, false, _&&_}
+use mathlib.Core.List.{List, [], _∷_}
+use Prim.Native.Nat.{ℕ, zero, suc, _+_, _-_, _*_, _/_, _%_, _^_, _<_, _≤_}
+use native.Mathlib.Nat.{div-lt-iff-lt-mul, div-add-mod'}
+use native.Mathlib.Omega.{arith}
+use lib.Dec.{eqb}
+use lib.ListN.{length, getD}
+use lib.Pow.{pow-pos, pow-add}
+use Rattle.std.specs.shelf.Lists.{All}
+use Rattle.std.proofs.shelf.Bits.{mul-add-lt, div-mul-add, mod-mul-add, mod-below, div-below}
+use Rattle.std.proofs.shelf.Elements.{all-getD, all-weaker}
+use Rattle.std.proofs.shelf.Tests.{eqb-true, eq-eqb, and-parts, and-from}
+use Rattle.std.proofs.shelf.Ways.{tells}
+use Rattle.nets.specs.Sums.{total, count}
+use Rattle.nets.specs.Places.{Place, OnPanel, top, lies, IsNet, held}
+use Rattle.nets.proofs.Counts.{spread, none-empty, none-twice, count-lone, lone-count, count-same}
+
+pub pow-sum : (i j n : ℕ) → i + j ≡ n → 2 ^ i * 2 ^ j ≡ 2 ^ n
+pow-sum i j n e = sym (pow-add 2 i j) ∙ ap (λ z. 2 ^ z) e
+
+pub top-below : (d x : ℕ) → d ≤ 16 → x < 2 ^ 16 → top d x < 2 ^ d
+top-below d x hd h = div-below x (2 ^ (16 - d)) (2 ^ d) (pow-pos (16 - d)) (omega (arith, pow-sum d (16 - d) 16 (omega arith)))
+
+-- the number of the interval of depth d in which a place lies
+abbrev pub number : (m d : ℕ) → Place → ℕ
+number m d p = top d (p .0) * 2 ^ (m - d) + top (m - d) (p .1)
+
+pub number-below : (m d : ℕ) (p : Place) → m ≤ 12 → d ≤ m → OnPanel p → number m d p < 2 ^ m
+number-below m d p hm hd h =
+    omega (
+      arith,
+      mul-add-lt (top d (p .0)) (2 ^ (m - d)) (top (m - d) (p .1)) (2 ^ d) (top-below d (p .0) (omega arith) (h .0)) (top-below (m - d) (p .1) (omega arith) (h .1)),
+      pow-sum (m - d) d m (omega arith),
+    )
+
+-- a number below w beside a multiple of w: both are told by the sum
+digits : (x y i j w : ℕ) → y < w → j < w → x * w + y ≡ i * w + j → (x ≡ i) × (y ≡ j)
+digits x y i j w hy hj e =
+    (sym (div-mul-add x w y hy) ∙ ap (λ z. z / w) e ∙ div-mul-add i w j hj, sym (mod-mul-add x w y hy) ∙ ap (λ z. z % w) e ∙ mod-mul-add i w j hj)
+
+pub told : (x y i j w : ℕ) → y < w → j < w → (eqb x i && eqb y j) ≡ eqb (x * w + y) (i * w + j)
+told x y i j w hy hj = let d = digits x y i j w hy hj in grind (arith, tells)
+
+module _ (m d : ℕ) (ps : List Place) (hm : m ≤ 12) (hd : d ≤ m) (inside : All OnPanel ps) where
+  -- an interval's count, by its number
+  pub by-number : (i j : ℕ) → j < 2 ^ (m - d) → count (lies m d i j) ps ≡ count (λ p. eqb (number m d p) (i * 2 ^ (m - d) + j)) ps
+  by-number i j hj =
+      count-same OnPanel (lies m d i j) (λ p. eqb (number m d p) (i * 2 ^ (m - d) + j))
+      (λ p h. told (top d (p .0)) (top (m - d) (p .1)) i j (2 ^ (m - d)) (top-below (m - d) (p .1) (omega arith) (h .1)) hj) ps inside
+
+  pub held-number : (n : ℕ) → held m d n ps ≡ count (λ p. eqb (number m d p) n) ps
+  held-number n =
+      by-number (n / 2 ^ (m - d)) (n % 2 ^ (m - d)) (mod-below n (2 ^ (m - d)) (pow-pos (m - d)))
+      ∙ ap (λ z. count (λ p. eqb (number m d p) z) ps) (div-add-mod' n (2 ^ (m - d)))
+
+  pub all-numbers : length ps ≡ 2 ^ m → total (2 ^ m) (λ n. count (λ p. eqb (number m d p) n) ps) ≡ 2 ^ m
+  all-numbers long = spread (number m d) (2 ^ m) ps (all-weaker OnPanel (λ p. number m d p < 2 ^ m) (λ p h. number-below m d p hm hd h) ps inside) ∙ long
+
+-- two places in one interval of depth d
+pub record Shares (m d : ℕ) (p q : Place) : Type 0 where
+  pub x : top d (p .0) ≡ top d (q .0)
+  pub y : top (m - d) (p .1) ≡ top (m - d) (q .1)
+
+-- no two places of the list are in one interval of depth d
+abbrev pub Apart : (m d : ℕ) → List Place → Type 0
+Apart m d ps = (j k : ℕ) → j < length ps → k < length ps → Shares m d (getD ps j (0, 0)) (getD ps k (0, 0)) → j ≡ k
+
+module _ (m : ℕ) (ps : List Place) (hm : m ≤ 12) (long : length ps ≡ 2 ^ m) (inside : All OnPanel ps) where
+  net-by-numbers : ((d : ℕ) → d ≤ m → (n : ℕ) → n < 2 ^ m → count (λ p. eqb (number m d p) n) ps ≡ 1) → IsNet m ps
+  net-by-numbers one =
+      record {
+        level = hm;
+        long = long;
+        inside = inside;
+        one = λ d i j hd hi hj. by-number m d ps hm hd inside i j hj
+            ∙ one d hd (i * 2 ^ (m - d) + j) (omega (arith, mul-add-lt i (2 ^ (m - d)) j (2 ^ d) hi hj, pow-sum (m - d) d m (omega arith)));
+      }
+
+  -- a list none of whose intervals is empty is a net
+  pub net-from-held : ((d n : ℕ) → d ≤ m → n < 2 ^ m → 1 ≤ held m d n ps) → IsNet m ps
+  net-from-held hit =
+      net-by-numbers (λ d hd. none-empty (λ n. count (λ p. eqb (number m d p) n) ps) (2 ^ m) (λ n hn. omega (arith, hit d n hd hn, held-number m d ps hm hd inside n)) (all-numbers m d ps hm hd inside long))
+
+  number-shares : (d : ℕ) → d ≤ m → (n j k : ℕ) → j < length ps → k < length ps → eqb (number m d (getD ps j (0, 0))) n ≡ true → eqb (number m d (getD ps k (0, 0))) n ≡ true → Shares m d (getD ps j (0, 0)) (getD ps k (0, 0))
+  number-shares d hd n j k hj hk a b =
+      let p : Place = getD ps j (0, 0) in
+      let q : Place = getD ps k (0, 0) in
+      let below = λ (r : Place) (h : OnPanel r). top-below (m - d) (r .1) (omega arith) (h .1) in
+      let s = digits (top d (p .0)) (top (m - d) (p .1)) (top d (q .0)) (top (m - d) (q .1)) (2 ^ (m - d)) (below p (all-getD OnPanel ps j (0, 0) hj inside)) (below q (all-getD OnPanel ps k (0, 0) hk inside)) (eqb-true _ _ a ∙ sym (eqb-true _ _ b)) in
+      record { x = s .0; y = s .1 }
+
+  -- a list whose places lie apart is a net
+  pub net-from-apart : ((d : ℕ) → d ≤ m → Apart m d ps) → IsNet m ps
+  net-from-apart apart =
+      net-by-numbers (λ d hd. none-twice (λ n. count (λ p. eqb (number m d p) n) ps) (2 ^ m)
+      (λ n hn. count-lone (λ p. eqb (number m d p) n) (0, 0) ps (λ j k hj hk a b. apart d hd j k hj hk (number-shares d hd n j k hj hk a b)))
+      (all-numbers m d ps hm hd inside long))
+
+-- and the places of a net lie apart
+pub apart-from-net : (m : ℕ) (ps : List Place) → IsNet m ps → (d : ℕ) → d ≤ m → Apart m d ps
+apart-from-net m ps net d hd j k hj hk s =
+    let p : Place = getD ps j (0, 0) in
+    let q : Place = getD ps k (0, 0) in
+    let at : OnPanel q = all-getD OnPanel ps k (0, 0) hk (net .inside) in
+    lone-count (lies m d (top d (q .0)) (top (m - d) (q .1))) (0, 0) ps
+    (omega (arith, net .one d (top d (q .0)) (top (m - d) (q .1)) hd (top-below d (q .0) (omega (arith, net .level)) (at .0)) (top-below (m - d) (q .1) (omega (arith, net .level)) (at .1))))
+    j k hj hk
+    (and-from _ _ (eq-eqb _ _ (s .x)) (eq-eqb _ _ (s .y)))
+    (and-from _ _ (eq-eqb (top d (q .0)) _ refl) (eq-eqb (top (m - d) (q .1)) _ refl))

@@ -1,0 +1,5 @@
+pub mod Sums
+pub mod Places
+pub mod Digits
+pub mod Refusals
+pub mod Plans
