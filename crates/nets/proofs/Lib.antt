@@ -1,3 +1,4 @@
 pub mod Counts
 pub mod Intervals
 pub mod Words
+pub mod Props

@@ -3,3 +3,4 @@ pub mod Places
 pub mod Digits
 pub mod Refusals
 pub mod Plans
+pub mod Bytes

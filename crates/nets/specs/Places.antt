@@ -3,7 +3,7 @@
 use mathlib.Core.Path.{_≡_}
 use mathlib.Core.Bool.{Bool, _&&_}
 use mathlib.Core.List.{List}
-use Prim.Native.Nat.{ℕ, _-_, _*_, _/_, _%_, _^_, _<_, _≤_}
+use Prim.Native.Nat.{ℕ, _+_, _-_, _*_, _/_, _^_, _<_, _≤_}
 use lib.Dec.{eqb}
 use lib.ListN.{length}
 use Rattle.std.specs.shelf.Lists.{All}
@@ -32,7 +32,11 @@ pub record IsNet (m : ℕ) (ps : List Place) : Type 0 where
   pub inside : All OnPanel ps
   pub one : (d i j : ℕ) → d ≤ m → i < 2 ^ d → j < 2 ^ (m - d) → count (lies m d i j) ps ≡ 1
 
--- the intervals of a depth are numbered: (i, j) has the number i * 2^(m - d) + j.
--- How many places the interval number n holds
+-- the intervals of a depth are numbered, (i, j) by i * 2^(m - d) + j.
+-- The number of the one in which a place lies
+abbrev pub number : (m d : ℕ) → Place → ℕ
+number m d p = top d (p .0) * 2 ^ (m - d) + top (m - d) (p .1)
+
+-- how many places the interval number n holds
 abbrev pub held : (m d n : ℕ) → List Place → ℕ
-held m d n ps = count (lies m d (n / 2 ^ (m - d)) (n % 2 ^ (m - d))) ps
+held m d n ps = count (λ p. eqb (number m d p) n) ps

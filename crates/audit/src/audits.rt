@@ -1,0 +1,95 @@
+// The audit: a net is accepted, and any other list is refused.
+ghost use mathlib.Core.Bool.{true, false};
+ghost use mathlib.Core.Path.{_≡_};
+ghost use Prim.Native.Nat.{ℕ, _+_, _*_, _^_, _<_, _≤_};
+ghost use lib.ListN.{length, getD};
+ghost use Rattle.std.specs.Options.{Cases};
+ghost use Rattle.std.specs.Results.{Cases as ByOk};
+ghost use Rattle.std.specs.shelf.Lists.{All};
+ghost use Rattle.std.specs.declared.result.Result.the-variants.{Ok};
+ghost use Rattle.nets.specs.Places.{IsNet, OnPanel, number, held};
+ghost use Rattle.audit.specs.Audits.{NoLevel, First, Examined, NoNet, Audited};
+ghost use Rattle.audit.specs.Refusals.{net-told};
+use crate::faults::AuditFault;
+use crate::faults::AuditFromNotNet;
+use crate::faults::NotNet;
+use nets::Place;
+
+// The intervals of one depth at the highest level.
+const MOST: usize = 4096;
+
+// Whether a list of places is a net, with the number of the intervals examined.
+pub fn audit(places: &[Place]) -> Result<u32, AuditFault>
+    ensures cases { λ r. ⌜ Audited (now (places .entry)) r ⌝ }
+    ensures accepts { λ r. ⌜ ((m : ℕ) → IsNet m (now (places .entry)) → r ≡ Ok ((m + 1) * 2 ^ m)) ⌝ }
+{
+    let Some(m) = level_of(places.len(), 1) else {
+        return Err(AuditFault::Length(places.len()));
+    };
+    let examined = examine(m, places)?;
+    Ok(examined)
+}
+
+// The level whose list has this size, at so many to a place.
+pub(crate) fn level_of(size: usize, each: usize) -> Option<u32>
+    requires { ⌜ each ≤ 4 ⌝ }
+    ensures { λ r. ⌜ Cases r (NoLevel each size) (λ m. (m ≤ 12) × (size ≡ each * 2 ^ m)) ⌝ }
+{
+    for m in 0..=12u32 {
+        if size == each << m {
+            return Some(m);
+        }
+    }
+    None
+}
+
+// The audit of 2^m places.
+pub(crate) fn examine(m: u32, places: &[Place]) -> Result<u32, NotNet>
+    requires { ⌜ m ≤ 12 ⌝ ∗ ⌜ length (now places) ≡ 2 ^ m ⌝ }
+    ensures { λ r. ⌜ ByOk r (λ n. Examined m (now (places .entry)) n) (λ e. NoNet m (now (places .entry)) (net-told e)) ⌝ }
+{
+    for depth in 0..m + 1 {
+        if let Some(interval) = first_empty(m, depth, places) {
+            return Err(NotNet { depth, interval });
+        }
+    }
+    Ok((m + 1) << m)
+}
+
+// The number of the interval of depth d in which the place (x, y) lies.
+fn interval_of(m: u32, d: u32, x: u16, y: u16) -> usize
+    requires { ⌜ m ≤ 12 ⌝ ∗ ⌜ d ≤ m ⌝ }
+    ensures value { λ r. ⌜ r ≡ number m d (x, y) ⌝ }
+    ensures bound { λ r. ⌜ r < 2 ^ m ⌝ }
+    ensures inside { λ _. ⌜ OnPanel (x, y) ⌝ }
+{
+    let i = u32::from(x) >> (16 - d);
+    let j = u32::from(y) >> (16 - (m - d));
+    ((i << (m - d)) + j) as usize
+}
+
+// The number of the first empty interval of depth d.
+fn first_empty(m: u32, d: u32, places: &[Place]) -> Option<u32>
+    requires { ⌜ m ≤ 12 ⌝ ∗ ⌜ d ≤ m ⌝ }
+    ensures inside { λ _. ⌜ All OnPanel (now (places .entry)) ⌝ }
+    ensures cases { λ r. ⌜ First (2 ^ m) (λ k. 1 ≤ held m d k (now (places .entry))) (λ k. held m d k (now (places .entry)) ≡ 0) r ⌝ }
+{
+    let mut seen = [false; MOST];
+    for (x, y) in places {
+        seen[interval_of(m, d, *x, *y)] = true;
+    }
+    first_clear(&seen, 1 << m)
+}
+
+// The first of the first n flags that is not set.
+fn first_clear(seen: &[bool], n: u32) -> Option<u32>
+    requires { ⌜ n ≤ length (now seen) ⌝ }
+    ensures { λ r. ⌜ First n (λ k. getD (now (seen .entry)) k false ≡ true) (λ k. getD (now (seen .entry)) k false ≡ false) r ⌝ }
+{
+    for i in 0..n {
+        if !seen[i as usize] {
+            return Some(i);
+        }
+    }
+    None
+}

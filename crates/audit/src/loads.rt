@@ -1,0 +1,84 @@
+// A point list: how it begins, how it is loaded, and that it is a plan.
+ghost use mathlib.Core.List.{[], _∷_};
+ghost use mathlib.Core.Path.{_≡_};
+ghost use Prim.Native.Nat.{ℕ, _+_, _*_, _^_, _≤_};
+ghost use lib.ListN.{length};
+ghost use Rattle.std.specs.Of.Vec.{vec-items};
+ghost use Rattle.std.specs.Vec.{made};
+ghost use Rattle.nets.specs.Bytes.{le, laid};
+ghost use Rattle.audit.specs.Loads.{Loaded};
+use crate::audits::examine;
+use crate::audits::level_of;
+use crate::faults::LoadFault;
+use crate::faults::LoadFromAlloc;
+use crate::faults::LoadFromNotNet;
+use crate::points::PointList;
+use nets::Net;
+use nets::Place;
+use nets::PlaceFault;
+use std::alloc::AllocError;
+use std::alloc::Global;
+
+impl PointList {
+    // Level 0, with the one place (0, 0).
+    pub fn new(heap: Global) -> Result<Self, AllocError>
+        ensures { λ r. ⌜ made r (λ p. (p .level ≡ 0) × (vec-items (p .places) ≡ (0, 0) ∷ [])) ⌝ }
+    {
+        let places = vec![in heap; (0, 0)]?;
+        Ok(PointList { level: 0, places })
+    }
+
+    // Replaces the list by the places that the bytes lay down, if they are a net.
+    pub fn load(&mut self, heap: Global, bytes: &[u8]) -> Result<u32, LoadFault>
+        ensures { λ r. ⌜ Loaded (now (bytes .entry)) (now (self .entry)) (now (self .exit)) r ⌝ }
+    {
+        let Some(level) = level_of(bytes.len(), 4) else {
+            return Err(LoadFault::Length(bytes.len()));
+        };
+        let places = read_places(heap, bytes)?;
+        let examined = examine(level, &places)?;
+        self.level = level;
+        self.places = places;
+        Ok(examined)
+    }
+}
+
+pub impl Net for PointList as PointListNet {
+    ghost level = { λ p. p .level };
+
+    ghost places = { λ p. vec-items (p .places) };
+
+    fn show_net(&self) {}
+
+    fn level(&self) -> u32 {
+        self.level
+    }
+
+    fn place(&self, i: u32) -> Result<Place, PlaceFault> {
+        match self.places.get(i as usize) {
+            Some(place) => Ok(*place),
+            None => Err(PlaceFault::NoPlace(i)),
+        }
+    }
+}
+
+// The number at index i, lowest byte first.
+fn u16_at(bytes: &[u8], i: usize) -> u16
+    requires { ⌜ i + 2 ≤ length (now bytes) ⌝ }
+    ensures { λ r. ⌜ r ≡ le 2 (now (bytes .entry)) i ⌝ }
+{
+    u16::from_le_bytes([bytes[i], bytes[i + 1]])
+}
+
+// The places that the bytes lay down.
+fn read_places(heap: Global, bytes: &[u8]) -> Result<Vec<Place>, AllocError>
+    ensures { λ r. ⌜ made r (λ v. vec-items v ≡ laid (now (bytes .entry))) ⌝ }
+{
+    let mut places = Vec::new(heap);
+    for i in 0..bytes.len() / 4 {
+        let x = u16_at(bytes, 4 * i);
+        let y = u16_at(bytes, 4 * i + 2);
+        places.push((x, y))?;
+    }
+    Ok(places)
+}

@@ -1,0 +1,17 @@
+// netaudit: vets a customer's list of places, read from standard input.
+mod verdict;
+
+use std::error::AnyError;
+use std::io::Read;
+use verdict::LONGEST;
+use verdict::VerdictDisplay;
+use verdict::vet;
+
+fn main(rt: LibcRuntime) -> Result<(), AnyError> {
+    let mut bytes = Vec::new(rt.alloc());
+    let mut input = rt.stdin().take(LONGEST as u64 + 1);
+    input.read_to_end(&mut bytes)?;
+    let verdict = vet(rt.alloc(), &bytes)?;
+    println!(rt, "{verdict}")?;
+    Ok(())
+}

@@ -1,0 +1,75 @@
+// What is said of a list of places.
+ghost use Rattle.std.specs.Vec.{made};
+ghost use Rattle.netaudit.specs.Verdicts.{Vetted};
+use audit::LoadFault;
+use audit::NotNet;
+use audit::PointList;
+use audit::PointListNet;
+use nets::Net;
+use std::alloc::AllocError;
+use std::alloc::Global;
+use std::fmt;
+
+// The bytes of the longest list, of level 12.
+pub const LONGEST: usize = 16384;
+
+#[derive(Drop)]
+pub enum Verdict {
+    // A net, with how many intervals were examined.
+    Net {
+        places: u32,
+        level: u32,
+        intervals: u32,
+    },
+    // 12: no level's list has so many bytes.
+    NoLevel(usize),
+    // 13: not a net.
+    Empty(NotNet),
+    // 12: more bytes than the longest list has. Nobody knows how many.
+    TooLong,
+}
+
+pub fn vet(heap: Global, bytes: &[u8]) -> Result<Verdict, AllocError>
+    ensures { λ r. ⌜ made r (λ v. Vetted (now (bytes .entry)) v) ⌝ }
+{
+    if bytes.len() > LONGEST {
+        return Ok(Verdict::TooLong);
+    }
+    let mut list = PointList::new(heap)?;
+    match list.load(heap, bytes) {
+        Ok(intervals) => {
+            let level = list.level();
+            let places = 1 << level;
+            Ok(Verdict::Net {
+                places,
+                level,
+                intervals,
+            })
+        }
+        Err(LoadFault::Length(size)) => Ok(Verdict::NoLevel(size)),
+        Err(LoadFault::Empty(fault)) => Ok(Verdict::Empty(fault)),
+        Err(LoadFault::Memory) => Err(AllocError),
+    }
+}
+
+pub impl fmt::Display for Verdict as VerdictDisplay {
+    fn fmt<W: fmt::Write>(&self, f: &mut fmt::Formatter<W>) -> fmt::Result {
+        match self {
+            Verdict::Net {
+                places,
+                level,
+                intervals,
+            } => {
+                write!(
+                    f,
+                    "places {places}\nlevel {level}\nintervals {intervals}\nnet"
+                )
+            }
+            Verdict::NoLevel(size) => write!(f, "refused 12 place {size}"),
+            Verdict::Empty(NotNet { depth, interval }) => {
+                write!(f, "refused 13 depth {depth} interval {interval}")
+            }
+            Verdict::TooLong => write!(f, "refused 12 more than {LONGEST} bytes"),
+        }
+    }
+}
