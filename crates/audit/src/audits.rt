@@ -14,6 +14,7 @@ use crate::faults::AuditFault;
 use crate::faults::AuditFromNotNet;
 use crate::faults::NotNet;
 use nets::Place;
+use nets::top_bits;
 
 // The intervals of one depth at the highest level.
 const MOST: usize = 4096;
@@ -48,12 +49,20 @@ pub(crate) fn examine(m: u32, places: &[Place]) -> Result<u32, NotNet>
     requires { ⌜ m ≤ 12 ⌝ ∗ ⌜ length (now places) ≡ 2 ^ m ⌝ }
     ensures { λ r. ⌜ ByOk r (λ n. Examined m (now (places .entry)) n) (λ e. NoNet m (now (places .entry)) (net-told e)) ⌝ }
 {
-    for depth in 0..m + 1 {
+    for depth in 0..depths(m) {
         if let Some(interval) = first_empty(m, depth, places) {
             return Err(NotNet { depth, interval });
         }
     }
-    Ok((m + 1) << m)
+    Ok(depths(m) << m)
+}
+
+// How many depths a level has.
+fn depths(m: u32) -> u32
+    requires { ⌜ m ≤ 12 ⌝ }
+    ensures { λ r. ⌜ r ≡ m + 1 ⌝ }
+{
+    m + 1
 }
 
 // The number of the interval of depth d in which the place (x, y) lies.
@@ -63,9 +72,7 @@ fn interval_of(m: u32, d: u32, x: u16, y: u16) -> usize
     ensures bound { λ r. ⌜ r < 2 ^ m ⌝ }
     ensures inside { λ _. ⌜ OnPanel (x, y) ⌝ }
 {
-    let i = u32::from(x) >> (16 - d);
-    let j = u32::from(y) >> (16 - (m - d));
-    ((i << (m - d)) + j) as usize
+    ((top_bits(d, x) << (m - d)) + top_bits(m - d, y)) as usize
 }
 
 // The number of the first empty interval of depth d.

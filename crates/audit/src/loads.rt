@@ -1,9 +1,9 @@
 // A point list: how it begins, how it is loaded, and that it is a plan.
 ghost use mathlib.Core.List.{[], _∷_};
 ghost use mathlib.Core.Path.{_≡_};
-ghost use Prim.Native.Nat.{ℕ, _+_, _*_, _^_, _≤_};
-ghost use lib.ListN.{length};
-ghost use Rattle.std.specs.Of.Vec.{vec-items};
+ghost use Prim.Native.Nat.{_+_, _<_, _≤_};
+ghost use lib.ListN.{length, getD};
+ghost use Rattle.std.specs.Of.Vec.{vec-items, vec-len};
 ghost use Rattle.std.specs.Vec.{made};
 ghost use Rattle.nets.specs.Bytes.{le, laid};
 ghost use Rattle.audit.specs.Loads.{Loaded};
@@ -16,6 +16,7 @@ use crate::points::PointList;
 use nets::Net;
 use nets::Place;
 use nets::PlaceFault;
+use nets::check_index;
 use std::alloc::AllocError;
 use std::alloc::Global;
 
@@ -24,7 +25,7 @@ impl PointList {
     pub fn new(heap: Global) -> Result<Self, AllocError>
         ensures { λ r. ⌜ made r (λ p. (p .level ≡ 0) × (vec-items (p .places) ≡ (0, 0) ∷ [])) ⌝ }
     {
-        let places = vec![in heap; (0, 0)]?;
+        let places = one_place(heap)?;
         Ok(PointList { level: 0, places })
     }
 
@@ -41,6 +42,21 @@ impl PointList {
         self.places = places;
         Ok(examined)
     }
+
+    fn at(&self, i: u32) -> Place
+        requires { ⌜ i < vec-len (now self .places) ⌝ }
+        ensures { λ r. ⌜ r ≡ getD (vec-items (now (self .entry) .places)) i r ⌝ }
+    {
+        self.places[i as usize]
+    }
+}
+
+// The place of level 0.
+fn one_place(heap: Global) -> Result<Vec<Place>, AllocError>
+    ensures { λ r. ⌜ made r (λ v. vec-items v ≡ (0, 0) ∷ []) ⌝ }
+{
+    let places = vec![in heap; (0, 0)]?;
+    Ok(places)
 }
 
 pub impl Net for PointList as PointListNet {
@@ -55,10 +71,8 @@ pub impl Net for PointList as PointListNet {
     }
 
     fn place(&self, i: u32) -> Result<Place, PlaceFault> {
-        match self.places.get(i as usize) {
-            Some(place) => Ok(*place),
-            None => Err(PlaceFault::NoPlace(i)),
-        }
+        check_index(self.level, i)?;
+        Ok(self.at(i))
     }
 }
 

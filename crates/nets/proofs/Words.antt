@@ -5,9 +5,10 @@ use Prim.Native.Nat.{ℕ, zero, suc, _+_, _-_, _*_, _/_, _%_, _^_, _<_, _≤_}
 use native.Mathlib.Nat.{mod-one, div-one}
 use native.Mathlib.Omega.{arith}
 use lib.Bits.{bitXor, xor-step, differ}
-use lib.Pow.{pow-add, shr-shr, mod-pow-add}
+use lib.Pow.{pow-add, shl-shr, shr-shr, mod-pow-add}
 use Rattle.std.proofs.shelf.Tests.{cases-lt}
 use Rattle.nets.specs.Digits.{digit, word}
+use Rattle.nets.specs.Places.{top}
 
 -- the first n of b are binary digits
 abbrev pub Bits : ℕ → (ℕ → ℕ) → Type 0
@@ -103,3 +104,14 @@ digits-same (suc n) i j h =
     let f : suc n ≡ 1 + n = omega arith in
     let ih = digits-same n i j (λ r l. h r (omega arith)) in
     ap (λ z. i % 2 ^ z) f ∙ mod-pow-add i 1 n ∙ rw (h n (omega arith), ih) (sym (mod-pow-add j 1 n)) ∙ ap (λ z. j % 2 ^ z) (sym f)
+
+-- the top k bits are told by the top d
+pub top-fewer : (k d x : ℕ) → k ≤ d → d ≤ 16 → top k x ≡ top d x / 2 ^ (d - k)
+top-fewer k d x hk hd = let e : 16 - k ≡ (16 - d) + (d - k) = omega arith in ap (λ z. x / 2 ^ z) e ∙ sym (shr-shr x (16 - d) (d - k))
+
+-- the top bits of a number of m bits that is set as the top of a coordinate
+pub top-number : (m e n : ℕ) → m ≤ 16 → e ≤ m → top e (n * 2 ^ (16 - m)) ≡ n / 2 ^ (m - e)
+top-number m e n hm he = top-fewer e m (n * 2 ^ (16 - m)) he hm ∙ ap (λ z. z / 2 ^ (m - e)) (shl-shr n (16 - m))
+
+pub top-word : (m e : ℕ) (b : ℕ → ℕ) → Bits m b → m ≤ 16 → e ≤ m → top e (word m b * 2 ^ (16 - m)) ≡ word e b
+top-word m e b h hm he = top-number m e (word m b) hm he ∙ word-front m e b h he

@@ -3,7 +3,7 @@ ghost use mathlib.Core.Path.{_≡_};
 ghost use mathlib.Core.List.{List};
 ghost use Prim.Native.Nat.{ℕ, _≤_};
 ghost use Rattle.nets.specs.Places.{Place as Spot, IsNet};
-ghost use Rattle.nets.specs.Plans.{Placed};
+ghost use Rattle.nets.specs.Plans.{Indexed, Placed};
 
 // Two coordinates, x and y. Each stands for itself / 65,536.
 pub type Place = (u16, u16);
@@ -31,4 +31,18 @@ pub trait Net {
     // The place at an index, which is refused if it is 2^m or more.
     fn place(&self, i: u32) -> Result<Place, PlaceFault>
         ensures { λ r. ⌜ Placed (level (now (self .entry))) (places (now (self .entry))) i r ⌝ };
+}
+
+// An index is refused if it is 2^level or more.
+pub fn check_index(level: u32, i: u32) -> Result<(), PlaceFault>
+    ensures { λ r. ⌜ Indexed level i r ⌝ }
+{
+    if level >= 32 {
+        return Ok(());
+    }
+    if i < 1 << level {
+        Ok(())
+    } else {
+        Err(PlaceFault::NoPlace(i))
+    }
 }

@@ -43,5 +43,5 @@ returns-in-Some c =
 pub returns : need.returns
 returns c = record {
   net = net-from-held (c .args .m) _ (c .pre .0) (c .pre .1) (c .loop-depth .inv .0 (omega arith)) (λ d n hd hn. c .loop-depth .inv .1 d n (omega arith) hn);
-  all = intervals (c .args .m) (c .pre .0);
+  all = rw (c .depths .ensures) (intervals (c .args .m) (c .pre .0));
 }

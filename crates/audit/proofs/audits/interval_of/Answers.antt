@@ -17,4 +17,4 @@ returns c =
     let few : 2 ^ m ≤ 2 ^ 12 = pow-mono (c .pre .0) in
     let small : top d (p .0) * 2 ^ (m - d) < 4294967296 = omega arith in
     let value : top d (p .0) * 2 ^ (m - d) % 4294967296 + top (m - d) (p .1) ≡ number m d p = ap (λ z. z + top (m - d) (p .1)) (mod-eq-of-lt small) in
-    rw (c .from .ensures, c .from-2 .ensures) (record { value = value; bound = rw value below; inside = inside })
+    rw (c .top-bits .ensures, c .top-bits-2 .ensures) (record { value = value; bound = rw value below; inside = inside })

@@ -1,20 +1,20 @@
-use mathlib.Core.Path.{_≡_, refl, sym, ap, _∙_}
-use Prim.Native.Nat.{_^_, _<_, _≤_}
+use mathlib.Core.Path.{sym, _∙_}
+use Prim.Native.Nat.{ℕ, _^_, _<_}
 use native.Mathlib.Omega.{arith}
-use lib.ListN.{length, getD}
+use lib.ListN.{length}
+use Rattle.std.specs.Of.Vec.{vec-items, vec-len}
 use Rattle.std.proofs.shelf.Lists.{getD-read}
-use Rattle.std.proofs.shelf.Tests.{ltb-true, ltb-false}
+use Rattle.audit.specs.declared.points.PointList.{PointList}
 use Rattle.audit.proofs.Lists.{is-net}
 use Rattle.audit.proofs.loads.PointListNet.place.Needs as need
 
-pub returns-in-Some : need.returns-in-Some
-returns-in-Some c =
-    let found = c .in-Some .ensures tt .finds in
-    let same = c .deref .ensures .value in
-    let at : c .args .i < length (c .deref .result .now) = ltb-true _ _ (sym (found .0)) in
-    (omega (arith, ap length same, is-net (c .args .self .now) .long), getD-read _ _ _ at (found .1) (0, 0) ∙ ap (λ ps. getD ps (c .args .i) (0, 0)) same)
+within : (p : PointList) (i : ℕ) → i < 2 ^ p .level → i < length (vec-items (p .places))
+within p i h = omega (arith, is-net p .long)
 
-pub returns-in-None : need.returns-in-None
-returns-in-None c =
-    let past : length (c .deref .result .now) ≤ c .args .i = ltb-false _ _ (sym (c .in-None .ensures tt .finds .0)) in
-    (omega (arith, ap length (c .deref .ensures .value), is-net (c .args .self .now) .long), refl)
+pub at-requires : need.at-requires
+at-requires c κs = omega (arith, within (c .args .self .now) (c .args .i) (c .in-Continue-check-index .ensures tt), c .args .self .now .places .ok .0)
+
+pub returns : need.returns
+returns c =
+    let below = c .in-Continue-check-index .ensures tt in
+    (below, getD-read _ _ _ (within (c .args .self .now) (c .args .i) below) (c .at .ensures) (0, 0))

@@ -15,4 +15,4 @@ examine-requires c κs =
     (level .0, ap length (c .deref .ensures .value ∙ c .in-Continue-places .ensures tt) ∙ length-map-counting (place-at bytes) 0 (length bytes / 4) ∙ count)
 
 pub ghost-self : need.ghost-self
-ghost-self c = (∣ subst (IsNet (c .in-Some .level)) (c .deref .ensures .value) (c .in-Continue-examined .ensures tt .net) ∣₁, tt)
+ghost-self c = (c .in-Some .ensures tt .0, (∣ subst (IsNet (c .in-Some .level)) (c .deref .ensures .value) (c .in-Continue-examined .ensures tt .net) ∣₁, tt))

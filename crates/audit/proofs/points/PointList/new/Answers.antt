@@ -10,4 +10,4 @@ lone : IsNet 0 ((0, 0) ∷ [])
 lone = net-from-apart 0 ((0, 0) ∷ []) (omega arith) refl ((omega arith, omega arith), tt) (λ d hd j k hj hk s. omega arith)
 
 pub ghost-result : need.ghost-result
-ghost-result c = (∣ subst (IsNet 0) (sym (c .in-Continue-places .ensures tt .made .0)) lone ∣₁, tt)
+ghost-result c = (omega arith, (∣ subst (IsNet 0) (sym (c .in-Continue-places .ensures tt)) lone ∣₁, tt))
