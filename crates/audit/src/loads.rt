@@ -38,8 +38,7 @@ impl PointList {
         };
         let places = read_places(heap, bytes)?;
         let examined = examine(level, &places)?;
-        self.level = level;
-        self.places = places;
+        *self = PointList { level, places };
         Ok(examined)
     }
 

@@ -1,12 +1,14 @@
 // Layers: each takes a plan, and is again a plan of the same level.
 pub mod choice;
-pub mod layer;
+pub mod scramble;
+pub mod shift;
+pub mod swap;
 
 pub use choice::MaybeSwap;
 pub use choice::MaybeSwapNet;
-pub use layer::Scramble;
-pub use layer::ScrambleNet;
-pub use layer::Shift;
-pub use layer::ShiftNet;
-pub use layer::Swap;
-pub use layer::SwapNet;
+pub use scramble::Scramble;
+pub use scramble::ScrambleNet;
+pub use shift::Shift;
+pub use shift::ShiftNet;
+pub use swap::Swap;
+pub use swap::SwapNet;

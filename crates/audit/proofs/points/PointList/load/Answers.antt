@@ -14,5 +14,5 @@ examine-requires c κs =
     let count : length bytes / 4 ≡ 2 ^ c .in-Some .level = omega (arith, level .1) in
     (level .0, ap length (c .deref .ensures .value ∙ c .in-Continue-places .ensures tt) ∙ length-map-counting (place-at bytes) 0 (length bytes / 4) ∙ count)
 
-pub ghost-self : need.ghost-self
-ghost-self c = (c .in-Some .ensures tt .0, (∣ subst (IsNet (c .in-Some .level)) (c .deref .ensures .value) (c .in-Continue-examined .ensures tt .net) ∣₁, tt))
+pub ghost-drop : need.ghost-drop
+ghost-drop c = (c .in-Some .ensures tt .0, (∣ subst (IsNet (c .in-Some .level)) (c .deref .ensures .value) (c .in-Continue-examined .ensures tt .net) ∣₁, tt))

@@ -1,6 +1,0 @@
-use borrow.Author.Needs.{needs}
-use Rattle.std.proofs.shelf.Lists.{getD-map}
-use Rattle.layers.proofs.layer.SwapNet.place.Needs as need
-
-pub returns : need.returns
-returns g c = search (needs, getD-map)
