@@ -1,5 +1,7 @@
 // What is said of a list of places.
 ghost use Rattle.std.specs.Vec.{made};
+ghost use Rattle.std.specs.declared.option.Option.the-variants.{Some};
+ghost use Rattle.netaudit.specs.Texts.{text};
 ghost use Rattle.netaudit.specs.Verdicts.{Vetted};
 use audit::LoadFault;
 use audit::NotNet;
@@ -53,6 +55,8 @@ pub fn vet(heap: Global, bytes: &[u8]) -> Result<Verdict, AllocError>
 }
 
 pub impl fmt::Display for Verdict as VerdictDisplay {
+    ghost shown = { λ v. Some (text v) };
+
     fn fmt<W: fmt::Write>(&self, f: &mut fmt::Formatter<W>) -> fmt::Result {
         match self {
             Verdict::Net {
