@@ -13,6 +13,9 @@ ghost use Rattle.audit.specs.Refusals.{net-told};
 use crate::faults::AuditFault;
 use crate::faults::AuditFromNotNet;
 use crate::faults::NotNet;
+use crate::sources::Listed;
+use crate::sources::ListedSource;
+use crate::sources::Source;
 use nets::Place;
 use nets::top_bits;
 
@@ -27,7 +30,7 @@ pub fn audit(places: &[Place]) -> Result<u32, AuditFault>
     let Some(m) = level_of(places.len(), 1) else {
         return Err(AuditFault::Length(places.len()));
     };
-    let examined = examine(m, places)?;
+    let examined = examine(m, &Listed(places))?;
     Ok(examined)
 }
 
@@ -44,13 +47,13 @@ pub(crate) fn level_of(size: usize, each: usize) -> Option<u32>
     None
 }
 
-// The audit of 2^m places.
-pub(crate) fn examine(m: u32, places: &[Place]) -> Result<u32, NotNet>
-    requires { ⌜ m ≤ 12 ⌝ ∗ ⌜ length (now places) ≡ 2 ^ m ⌝ }
-    ensures { λ r. ⌜ ByOk r (λ n. Examined m (now (places .entry)) n) (λ e. NoNet m (now (places .entry)) (net-told e)) ⌝ }
+// The audit of 2^m places, wherever they come from.
+pub(crate) fn examine<S: Source>(m: u32, source: &S) -> Result<u32, NotNet>
+    requires { ⌜ m ≤ 12 ⌝ ∗ ⌜ length (S·Source .list (now source)) ≡ 2 ^ m ⌝ }
+    ensures { λ r. ⌜ ByOk r (λ n. Examined m (S·Source .list (now (source .entry))) n) (λ e. NoNet m (S·Source .list (now (source .entry))) (net-told e)) ⌝ }
 {
     for depth in 0..depths(m) {
-        if let Some(interval) = first_empty(m, depth, places) {
+        if let Some(interval) = first_empty(m, depth, source) {
             return Err(NotNet { depth, interval });
         }
     }
@@ -76,14 +79,15 @@ fn interval_of(m: u32, d: u32, x: u16, y: u16) -> usize
 }
 
 // The number of the first empty interval of depth d.
-fn first_empty(m: u32, d: u32, places: &[Place]) -> Option<u32>
-    requires { ⌜ m ≤ 12 ⌝ ∗ ⌜ d ≤ m ⌝ }
-    ensures inside { λ _. ⌜ All OnPanel (now (places .entry)) ⌝ }
-    ensures cases { λ r. ⌜ First (2 ^ m) (λ k. 1 ≤ held m d k (now (places .entry))) (λ k. held m d k (now (places .entry)) ≡ 0) r ⌝ }
+fn first_empty<S: Source>(m: u32, d: u32, source: &S) -> Option<u32>
+    requires { ⌜ m ≤ 12 ⌝ ∗ ⌜ d ≤ m ⌝ ∗ ⌜ length (S·Source .list (now source)) ≡ 2 ^ m ⌝ }
+    ensures inside { λ _. ⌜ All OnPanel (S·Source .list (now (source .entry))) ⌝ }
+    ensures cases { λ r. ⌜ First (2 ^ m) (λ k. 1 ≤ held m d k (S·Source .list (now (source .entry)))) (λ k. held m d k (S·Source .list (now (source .entry))) ≡ 0) r ⌝ }
 {
     let mut seen = [false; MOST];
-    for (x, y) in places {
-        seen[interval_of(m, d, *x, *y)] = true;
+    for i in 0..1 << m {
+        let (x, y) = source.at(i);
+        seen[interval_of(m, d, x, y)] = true;
     }
     first_clear(&seen, 1 << m)
 }

@@ -3,7 +3,6 @@ ghost use mathlib.Core.Path.{_≡_};
 ghost use Rattle.audit.specs.declared.faults.AuditFault.the-variants as of-audit;
 ghost use Rattle.audit.specs.declared.faults.LoadFault.the-variants as of-load;
 use std::alloc::AllocError;
-use std::alloc::Refused;
 
 // 13: the list is no net. This is the smallest depth that has an empty interval, and the smallest
 // empty one there.
@@ -48,14 +47,6 @@ pub impl From<AllocError> for LoadFault as LoadFromAlloc {
     ghost converts = { λ _ r. r ≡ of-load.Memory };
 
     fn from(_e: AllocError) -> LoadFault {
-        LoadFault::Memory
-    }
-}
-
-pub impl<T: Drop> From<Refused<T>> for LoadFault as LoadFromRefused {
-    ghost converts = { λ _ r. r ≡ of-load.Memory };
-
-    fn from(_e: Refused<T>) -> LoadFault {
         LoadFault::Memory
     }
 }

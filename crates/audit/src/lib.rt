@@ -3,6 +3,7 @@ pub mod audits;
 pub mod faults;
 pub mod loads;
 pub mod points;
+mod sources;
 
 pub use audits::audit;
 pub use faults::AuditFault;

@@ -1,11 +1,11 @@
 // A point list: how it begins, how it is loaded, and that it is a plan.
 ghost use mathlib.Core.List.{[], _∷_};
 ghost use mathlib.Core.Path.{_≡_};
-ghost use Prim.Native.Nat.{_+_, _<_, _≤_};
-ghost use lib.ListN.{length, getD};
+ghost use Prim.Native.Nat.{_<_};
+ghost use lib.ListN.{getD};
 ghost use Rattle.std.specs.Of.Vec.{vec-items, vec-len};
 ghost use Rattle.std.specs.Vec.{made};
-ghost use Rattle.nets.specs.Bytes.{le, laid};
+ghost use Rattle.nets.specs.Bytes.{laid};
 ghost use Rattle.audit.specs.Loads.{Loaded};
 use crate::audits::examine;
 use crate::audits::level_of;
@@ -13,6 +13,9 @@ use crate::faults::LoadFault;
 use crate::faults::LoadFromAlloc;
 use crate::faults::LoadFromNotNet;
 use crate::points::PointList;
+use crate::sources::Laid;
+use crate::sources::LaidSource;
+use crate::sources::place_at;
 use nets::Net;
 use nets::Place;
 use nets::PlaceFault;
@@ -36,8 +39,8 @@ impl PointList {
         let Some(level) = level_of(bytes.len(), 4) else {
             return Err(LoadFault::Length(bytes.len()));
         };
+        let examined = examine(level, &Laid(bytes))?;
         let places = read_places(heap, bytes)?;
-        let examined = examine(level, &places)?;
         *self = PointList { level, places };
         Ok(examined)
     }
@@ -75,23 +78,13 @@ pub impl Net for PointList as PointListNet {
     }
 }
 
-// The number at index i, lowest byte first.
-fn u16_at(bytes: &[u8], i: usize) -> u16
-    requires { ⌜ i + 2 ≤ length (now bytes) ⌝ }
-    ensures { λ r. ⌜ r ≡ le 2 (now (bytes .entry)) i ⌝ }
-{
-    u16::from_le_bytes([bytes[i], bytes[i + 1]])
-}
-
 // The places that the bytes lay down.
 fn read_places(heap: Global, bytes: &[u8]) -> Result<Vec<Place>, AllocError>
     ensures { λ r. ⌜ made r (λ v. vec-items v ≡ laid (now (bytes .entry))) ⌝ }
 {
     let mut places = Vec::new(heap);
     for i in 0..bytes.len() / 4 {
-        let x = u16_at(bytes, 4 * i);
-        let y = u16_at(bytes, 4 * i + 2);
-        places.push((x, y))?;
+        places.push(place_at(bytes, i))?;
     }
     Ok(places)
 }

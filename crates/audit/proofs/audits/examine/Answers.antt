@@ -16,13 +16,13 @@ intervals m h =
     mod-eq-of-lt small
 
 pub loop-depth-again : need.loop-depth-again
-loop-depth-again c = (
+loop-depth-again g c = (
   λ h. c .first-empty .ensures .inside,
-  λ e k h. below-more (λ e. k < 2 ^ c .args .m → 1 ≤ held (c .args .m) e k (c .args .places .now)) _ (λ e h. c .loop-depth .inv .1 e k h) (c .in-rest .ensures tt .cases k) e h,
+  λ e k h. below-more (λ e. k < 2 ^ c .args .m → 1 ≤ held (c .args .m) e k (g .S·Source .list (c .args .source .now))) _ (λ e h. c .loop-depth .inv .1 e k h) (c .in-rest .ensures tt .cases k) e h,
 )
 
 pub returns-in-Some : need.returns-in-Some
-returns-in-Some c =
+returns-in-Some g c =
     let found = c .in-Some .ensures tt .cases in
     record {
       d = c .loop-depth .depth;
@@ -41,7 +41,7 @@ returns-in-Some c =
     }
 
 pub returns : need.returns
-returns c = record {
+returns g c = record {
   net = net-from-held (c .args .m) _ (c .pre .0) (c .pre .1) (c .loop-depth .inv .0 (omega arith)) (λ d n hd hn. c .loop-depth .inv .1 d n (omega arith) hn);
   all = rw (c .depths .ensures) (intervals (c .args .m) (c .pre .0));
 }

@@ -4,4 +4,4 @@ use Rattle.nets.specs.Places.{OnPanel, held}
 use Rattle.audit.proofs.audits.examine.Given as given
 
 abbrev pub Inv-loop-depth : given.InvT-loop-depth
-Inv-loop-depth l = (0 < l .depth → All OnPanel (l .places)) × ((e k : ℕ) → e < l .depth → k < 2 ^ l .m → 1 ≤ held (l .m) e k (l .places))
+Inv-loop-depth g l = (0 < l .depth → All OnPanel (g .S·Source .list (l .source))) × ((e k : ℕ) → e < l .depth → k < 2 ^ l .m → 1 ≤ held (l .m) e k (g .S·Source .list (l .source)))

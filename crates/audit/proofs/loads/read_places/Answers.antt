@@ -8,4 +8,4 @@ use Rattle.audit.proofs.loads.read_places.Needs as need
 pub loop-i-again : need.loop-i-again
 loop-i-again c =
     pushed _ (c .loop-i .inv) (c .in-Continue-push .was tt) (c .push .ensures .items)
-    ∙ rw (c .u16-at-x .ensures, c .u16-at-y .ensures) (sym (map-counting-more (place-at (c .args .bytes .now)) 0 _ _ (zero-add _)))
+    ∙ rw (c .place-at .ensures) (sym (map-counting-more (place-at (c .args .bytes .now)) 0 _ _ (zero-add _)))

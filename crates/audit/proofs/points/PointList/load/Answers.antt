@@ -1,5 +1,5 @@
-use mathlib.Core.Path.{_≡_, sym, ap, subst, _∙_}
-use Prim.Native.Nat.{_*_, _/_, _^_}
+use mathlib.Core.Path.{_≡_, sym, subst, _∙_}
+use Prim.Native.Nat.{_/_, _^_}
 use native.Mathlib.Omega.{arith}
 use lib.ListN.{length}
 use Rattle.std.proofs.shelf.Counted.{length-map-counting}
@@ -12,7 +12,8 @@ examine-requires c κs =
     let level = c .in-Some .ensures tt in
     let bytes = c .args .bytes .now in
     let count : length bytes / 4 ≡ 2 ^ c .in-Some .level = omega (arith, level .1) in
-    (level .0, ap length (c .deref .ensures .value ∙ c .in-Continue-places .ensures tt) ∙ length-map-counting (place-at bytes) 0 (length bytes / 4) ∙ count)
+    (level .0, length-map-counting (place-at bytes) 0 (length bytes / 4) ∙ count)
 
 pub ghost-drop : need.ghost-drop
-ghost-drop c = (c .in-Some .ensures tt .0, (∣ subst (IsNet (c .in-Some .level)) (c .deref .ensures .value) (c .in-Continue-examined .ensures tt .net) ∣₁, tt))
+ghost-drop c =
+    (c .in-Some .ensures tt .0, (∣ subst (IsNet (c .in-Some .level)) (sym (c .in-Continue-places .ensures tt)) (c .in-Continue-examined .ensures tt .net) ∣₁, tt))
