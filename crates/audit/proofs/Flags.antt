@@ -32,12 +32,14 @@ pub marks-none : (m d : ℕ) (ps : List Place) (n : ℕ) → Marks m d ps 0 (rep
 marks-none m d ps n = record { inside = λ j h. absurd (omega arith); hit = λ k e. absurd (both-ways _ (unmarked n k) e); marked = λ j h. absurd (omega arith) }
 
 module _ (m d : ℕ) (ps : List Place) (n : ℕ) (seen : List Bool) (marks : Marks m d ps n seen) where
-  -- one place more, in the interval k
-  pub marks-more : (k : ℕ) → OnPanel (getD ps n (0, 0)) → k ≡ number m d (getD ps n (0, 0)) → k < length seen → Marks m d ps (n + 1) (set seen k true)
-  marks-more k on here lt =
+  -- one place more, p in the interval k
+  pub marks-more : (k : ℕ) (p : Place) → p ≡ getD ps n (0, 0) → OnPanel p → k ≡ number m d p → k < length seen → Marks m d ps (n + 1) (set seen k true)
+  marks-more k p e on at lt =
+      let here : k ≡ number m d (getD ps n (0, 0)) = at ∙ ap (number m d) e in
       record {
-        inside = below-more (λ j. OnPanel (getD ps j (0, 0))) n (marks .inside) on;
-        hit = λ i e. ⊎-elim
+        inside = below-more (λ j. OnPanel (getD ps j (0, 0))) n (marks .inside) (subst OnPanel e on);
+        hit =
+            λ i e. ⊎-elim
             (λ (q : i ≡ k). (n, omega arith, sym here ∙ sym q))
             (λ (q : i ≡ k → ⊥). let o = marks .hit i (sym (getD-set-other seen k i true false q) ∙ e) in (o .0, omega (arith, o .1), o .2))
             (cases-eq i k);

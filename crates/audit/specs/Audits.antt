@@ -8,12 +8,14 @@ use Rattle.std.specs.declared.option.Option.{Option}
 use Rattle.std.specs.declared.option.Option.the-variants.{Some, None}
 use Rattle.std.specs.declared.result.Result.{Result}
 use Rattle.std.specs.declared.result.Result.the-variants.{Ok, Err}
+use Rattle.nets.specs.Bytes.{laid}
 use Rattle.nets.specs.Places.{Place, IsNet, held}
 use Rattle.nets.specs.Refusals.{Told, refused}
+use Rattle.audit.specs.declared.audits.Accepted.{Accepted}
 use Rattle.audit.specs.declared.faults.AuditFault.{AuditFault}
 use Rattle.audit.specs.Refusals.{audit-told}
 
--- n is the size of no level's list, at so many to a place
+-- n is the length of no level's list, where each place has a length of its own
 abbrev pub NoLevel : (each n : ℕ) → Type 0
 NoLevel each n = (m : ℕ) → m ≤ 12 → n ≡ each * 2 ^ m → ⊥
 
@@ -52,3 +54,11 @@ pub record Examined (m : ℕ) (ps : List Place) (n : ℕ) : Type 0 where
 abbrev pub Audited : List Place → Result ℕ AuditFault → Type 0
 Audited ps (Ok n) = (m : ℕ) × Examined m ps n
 Audited ps (Err e) = WrongLength 1 (length ps) (audit-told e) ⊎ ((m : ℕ) × NoNet m ps (audit-told e))
+
+-- of bytes that lay down places, four to a place
+abbrev pub RefusedBytes : List ℕ → Told → Type 0
+RefusedBytes bytes t = WrongLength 4 (length bytes) t ⊎ ((m : ℕ) × (length bytes ≡ 4 * 2 ^ m) × NoNet m (laid bytes) t)
+
+abbrev pub AuditedBytes : List ℕ → Result Accepted AuditFault → Type 0
+AuditedBytes bytes (Ok a) = (length bytes ≡ 4 * 2 ^ a .level) × Examined (a .level) (laid bytes) (a .intervals)
+AuditedBytes bytes (Err e) = RefusedBytes bytes (audit-told e)

@@ -12,13 +12,11 @@ use Rattle.audit.specs.declared.faults.LoadFault.the-variants as of-load
 abbrev pub net-told : NotNet → Told
 net-told e = refused 13 (e .depth ∷ e .interval ∷ [])
 
--- 12: no level has so many places; their number
+-- 12: no level's list has this length; the length
 abbrev pub audit-told : AuditFault → Told
 audit-told (of-audit.Length n) = refused 12 (n ∷ [])
 audit-told (of-audit.Empty e) = net-told e
 
--- 12: no level has so many bytes; their number
 abbrev pub load-told : LoadFault → Told
-load-told (of-load.Length n) = refused 12 (n ∷ [])
-load-told (of-load.Empty e) = net-told e
+load-told (of-load.Audit e) = audit-told e
 load-told of-load.Memory = no-memory

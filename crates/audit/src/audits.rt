@@ -8,11 +8,13 @@ ghost use Rattle.std.specs.Results.{Cases as ByOk};
 ghost use Rattle.std.specs.shelf.Lists.{All};
 ghost use Rattle.std.specs.declared.result.Result.the-variants.{Ok};
 ghost use Rattle.nets.specs.Places.{IsNet, OnPanel, number, held};
-ghost use Rattle.audit.specs.Audits.{NoLevel, First, Examined, NoNet, Audited};
+ghost use Rattle.audit.specs.Audits.{NoLevel, First, Examined, NoNet, Audited, AuditedBytes};
 ghost use Rattle.audit.specs.Refusals.{net-told};
 use crate::faults::AuditFault;
 use crate::faults::AuditFromNotNet;
 use crate::faults::NotNet;
+use crate::sources::Laid;
+use crate::sources::LaidSource;
 use crate::sources::Listed;
 use crate::sources::ListedSource;
 use crate::sources::Source;
@@ -34,8 +36,26 @@ pub fn audit(places: &[Place]) -> Result<u32, AuditFault>
     Ok(examined)
 }
 
-// The level whose list has this size, at so many to a place.
-pub(crate) fn level_of(size: usize, each: usize) -> Option<u32>
+// A net's level, and how many intervals were examined.
+#[derive(Clone, Copy)]
+pub struct Accepted {
+    pub level: u32,
+    pub intervals: u32,
+}
+
+// The same of the places that bytes lay down, read where they lie.
+pub fn audit_bytes(bytes: &[u8]) -> Result<Accepted, AuditFault>
+    ensures { λ r. ⌜ AuditedBytes (now (bytes .entry)) r ⌝ }
+{
+    let Some(level) = level_of(bytes.len(), 4) else {
+        return Err(AuditFault::Length(bytes.len()));
+    };
+    let intervals = examine(level, &Laid(bytes))?;
+    Ok(Accepted { level, intervals })
+}
+
+// The level whose list has this size, where each place has a length of its own.
+fn level_of(size: usize, each: usize) -> Option<u32>
     requires { ⌜ each ≤ 4 ⌝ }
     ensures { λ r. ⌜ Cases r (NoLevel each size) (λ m. (m ≤ 12) × (size ≡ each * 2 ^ m)) ⌝ }
 {
@@ -48,12 +68,22 @@ pub(crate) fn level_of(size: usize, each: usize) -> Option<u32>
 }
 
 // The audit of 2^m places, wherever they come from.
-pub(crate) fn examine<S: Source>(m: u32, source: &S) -> Result<u32, NotNet>
+fn examine<S: Source>(m: u32, source: &S) -> Result<u32, NotNet>
     requires { ⌜ m ≤ 12 ⌝ ∗ ⌜ length (S·Source .list (now source)) ≡ 2 ^ m ⌝ }
     ensures { λ r. ⌜ ByOk r (λ n. Examined m (S·Source .list (now (source .entry))) n) (λ e. NoNet m (S·Source .list (now (source .entry))) (net-told e)) ⌝ }
 {
+    let mut flags = [false; MOST];
+    examine_by(m, source, &mut flags[0..1 << m])
+}
+
+// The same with a flag for each interval of a depth.
+fn examine_by<S: Source>(m: u32, source: &S, seen: &mut [bool]) -> Result<u32, NotNet>
+    requires { ⌜ m ≤ 12 ⌝ }
+    requires { ⌜ length (S·Source .list (now source)) ≡ 2 ^ m ⌝ ∗ ⌜ length (now seen) ≡ 2 ^ m ⌝ }
+    ensures { λ r. ⌜ ByOk r (λ n. Examined m (S·Source .list (now (source .entry))) n) (λ e. NoNet m (S·Source .list (now (source .entry))) (net-told e)) ⌝ }
+{
     for depth in 0..depths(m) {
-        if let Some(interval) = first_empty(m, depth, source) {
+        if let Some(interval) = first_empty(m, depth, source, seen) {
             return Err(NotNet { depth, interval });
         }
     }
@@ -78,28 +108,29 @@ fn interval_of(m: u32, d: u32, x: u16, y: u16) -> usize
     ((top_bits(d, x) << (m - d)) + top_bits(m - d, y)) as usize
 }
 
-// The number of the first empty interval of depth d.
-fn first_empty<S: Source>(m: u32, d: u32, source: &S) -> Option<u32>
-    requires { ⌜ m ≤ 12 ⌝ ∗ ⌜ d ≤ m ⌝ ∗ ⌜ length (S·Source .list (now source)) ≡ 2 ^ m ⌝ }
+// The number of the first empty interval of depth d. It has a flag for each interval.
+fn first_empty<S: Source>(m: u32, d: u32, source: &S, seen: &mut [bool]) -> Option<u32>
+    requires { ⌜ m ≤ 12 ⌝ ∗ ⌜ d ≤ m ⌝ }
+    requires { ⌜ length (S·Source .list (now source)) ≡ 2 ^ m ⌝ ∗ ⌜ length (now seen) ≡ 2 ^ m ⌝ }
     ensures inside { λ _. ⌜ All OnPanel (S·Source .list (now (source .entry))) ⌝ }
     ensures cases { λ r. ⌜ First (2 ^ m) (λ k. 1 ≤ held m d k (S·Source .list (now (source .entry)))) (λ k. held m d k (S·Source .list (now (source .entry))) ≡ 0) r ⌝ }
 {
-    let mut seen = [false; MOST];
+    seen.fill(false);
     for i in 0..1 << m {
         let (x, y) = source.at(i);
         seen[interval_of(m, d, x, y)] = true;
     }
-    first_clear(&seen, 1 << m)
+    first_clear(seen)
 }
 
-// The first of the first n flags that is not set.
-fn first_clear(seen: &[bool], n: u32) -> Option<u32>
-    requires { ⌜ n ≤ length (now seen) ⌝ }
-    ensures { λ r. ⌜ First n (λ k. getD (now (seen .entry)) k false ≡ true) (λ k. getD (now (seen .entry)) k false ≡ false) r ⌝ }
+// The first flag that is not set.
+fn first_clear(seen: &[bool]) -> Option<u32>
+    requires { ⌜ length (now seen) ≤ 4096 ⌝ }
+    ensures { λ r. ⌜ First (length (now (seen .entry))) (λ k. getD (now (seen .entry)) k false ≡ true) (λ k. getD (now (seen .entry)) k false ≡ false) r ⌝ }
 {
-    for i in 0..n {
-        if !seen[i as usize] {
-            return Some(i);
+    for (i, set) in seen.iter().enumerate() {
+        if !*set {
+            return Some(i as u32);
         }
     }
     None

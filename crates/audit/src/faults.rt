@@ -14,16 +14,14 @@ pub struct NotNet {
 
 #[derive(Clone, Copy)]
 pub enum AuditFault {
-    // 12: no level has so many places.
+    // 12: no level's list has this length, in places or in bytes as the list was given.
     Length(usize),
     Empty(NotNet),
 }
 
 #[derive(Clone, Copy)]
 pub enum LoadFault {
-    // 12: no level's list has so many bytes.
-    Length(usize),
-    Empty(NotNet),
+    Audit(AuditFault),
     Memory,
 }
 
@@ -35,11 +33,11 @@ pub impl From<NotNet> for AuditFault as AuditFromNotNet {
     }
 }
 
-pub impl From<NotNet> for LoadFault as LoadFromNotNet {
-    ghost converts = { λ e r. r ≡ of-load.Empty e };
+pub impl From<AuditFault> for LoadFault as LoadFromAudit {
+    ghost converts = { λ e r. r ≡ of-load.Audit e };
 
-    fn from(e: NotNet) -> LoadFault {
-        LoadFault::Empty(e)
+    fn from(e: AuditFault) -> LoadFault {
+        LoadFault::Audit(e)
     }
 }
 

@@ -5,7 +5,9 @@ pub mod loads;
 pub mod points;
 mod sources;
 
+pub use audits::Accepted;
 pub use audits::audit;
+pub use audits::audit_bytes;
 pub use faults::AuditFault;
 pub use faults::LoadFault;
 pub use faults::NotNet;

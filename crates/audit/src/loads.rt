@@ -7,14 +7,11 @@ ghost use Rattle.std.specs.Of.Vec.{vec-items, vec-len};
 ghost use Rattle.std.specs.Vec.{made};
 ghost use Rattle.nets.specs.Bytes.{laid};
 ghost use Rattle.audit.specs.Loads.{Loaded};
-use crate::audits::examine;
-use crate::audits::level_of;
+use crate::audits::audit_bytes;
 use crate::faults::LoadFault;
 use crate::faults::LoadFromAlloc;
-use crate::faults::LoadFromNotNet;
+use crate::faults::LoadFromAudit;
 use crate::points::PointList;
-use crate::sources::Laid;
-use crate::sources::LaidSource;
 use crate::sources::place_at;
 use nets::Net;
 use nets::Place;
@@ -36,13 +33,11 @@ impl PointList {
     pub fn load(&mut self, heap: Global, bytes: &[u8]) -> Result<u32, LoadFault>
         ensures { λ r. ⌜ Loaded (now (bytes .entry)) (now (self .entry)) (now (self .exit)) r ⌝ }
     {
-        let Some(level) = level_of(bytes.len(), 4) else {
-            return Err(LoadFault::Length(bytes.len()));
-        };
-        let examined = examine(level, &Laid(bytes))?;
+        let net = audit_bytes(bytes)?;
+        let level = net.level;
         let places = read_places(heap, bytes)?;
         *self = PointList { level, places };
-        Ok(examined)
+        Ok(net.intervals)
     }
 
     fn at(&self, i: u32) -> Place

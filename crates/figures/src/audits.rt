@@ -22,8 +22,7 @@ fn told(answer: Result<u32, AuditFault>) -> (u32, usize, u32, u32) {
 fn load_told(answer: Result<u32, LoadFault>) -> (u32, usize, u32, u32) {
     match answer {
         Ok(n) => (0, 0, n, 0),
-        Err(LoadFault::Length(n)) => (12, n, 0, 0),
-        Err(LoadFault::Empty(NotNet { depth, interval })) => (13, 0, depth, interval),
+        Err(LoadFault::Audit(fault)) => told(Err(fault)),
         Err(LoadFault::Memory) => (1, 0, 0, 0),
     }
 }

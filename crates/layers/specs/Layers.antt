@@ -8,9 +8,9 @@ use Rattle.nets.specs.Digits.{digit, word}
 abbrev pub shifted : (s t : ℕ) → Place → Place
 shifted s t p = (bitXor (p .0) s, bitXor (p .1) t)
 
--- nested scramble (Owen 1995), six levels deep, by a word of 64 bits: the number of the node above bit k,
--- counted from the top of a coordinate, is 2^k plus the number that the k bits above it make,
--- and bit k is flipped if the word's digit of that weight is 1
+-- nested scramble (Owen 1995), six levels deep, by a word of 64 bits: the node of bit k, counted from
+-- the top of a coordinate, has the number 2^k plus the number that the k bits above it make,
+-- and bit k is flipped if the word's digit of weight 2^(node number) is 1
 abbrev pub flip : (w x k : ℕ) → ℕ
 flip w x k = digit w (2 ^ k + top k x)
 

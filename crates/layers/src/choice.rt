@@ -17,6 +17,7 @@ pub enum MaybeSwap<P> {
 }
 
 impl<P> MaybeSwap<P> {
+    // With the swap on it if `swap` is true.
     pub fn new(plan: P, swap: bool) -> Self
         ensures { λ r. ⌜ r ≡ cond swap (Swapped (record { plan = plan })) (Plain plan) ⌝ }
     {

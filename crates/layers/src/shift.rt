@@ -1,4 +1,4 @@
-// Digital shift.
+// The layer that shifts each place digitally.
 ghost use mathlib.Core.List.{map};
 ghost use mathlib.Core.Path.{_≡_};
 ghost use Prim.Native.Nat.{_^_, _<_};

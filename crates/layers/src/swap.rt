@@ -1,4 +1,4 @@
-// Swap.
+// The layer that exchanges x and y.
 ghost use mathlib.Core.List.{map};
 ghost use mathlib.Core.Path.{_≡_};
 ghost use Rattle.layers.specs.Layers.{swapped};
@@ -6,7 +6,6 @@ use nets::Net;
 use nets::Place;
 use nets::PlaceFault;
 
-// x and y exchanged.
 #[derive(Drop)]
 pub struct Swap<P> {
     plan: P,

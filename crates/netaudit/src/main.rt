@@ -11,12 +11,12 @@ fn main(rt: LibcRuntime) -> Result<(), AnyError> {
     rt.report(run(&rt))
 }
 
-// Reads one byte more than the longest list has at the most, so that any input ends.
+// Reads at most one byte more than the longest list has, so that it ends on any input.
 fn run(rt: &LibcRuntime) -> Result<(), AnyError> {
     let mut bytes = Vec::new(rt.alloc());
     let mut input = rt.stdin().take(LONGEST as u64 + 1);
     input.read_to_end(&mut bytes)?;
-    let verdict = vet(rt.alloc(), &bytes)?;
+    let verdict = vet(&bytes);
     println!(rt, "{verdict}")?;
     Ok(())
 }

@@ -1,15 +1,11 @@
 // What is said of a list of places.
-ghost use Rattle.std.specs.Vec.{made};
 ghost use Rattle.std.specs.declared.option.Option.the-variants.{Some};
 ghost use Rattle.netaudit.specs.Texts.{text};
 ghost use Rattle.netaudit.specs.Verdicts.{Vetted};
-use audit::LoadFault;
+use audit::Accepted;
+use audit::AuditFault;
 use audit::NotNet;
-use audit::PointList;
-use audit::PointListNet;
-use nets::Net;
-use std::alloc::AllocError;
-use std::alloc::Global;
+use audit::audit_bytes;
 use std::fmt;
 
 // The bytes of the longest list, of level 12.
@@ -31,26 +27,23 @@ pub enum Verdict {
     TooLong,
 }
 
-pub fn vet(heap: Global, bytes: &[u8]) -> Result<Verdict, AllocError>
-    ensures { λ r. ⌜ made r (λ v. Vetted (now (bytes .entry)) v) ⌝ }
+pub fn vet(bytes: &[u8]) -> Verdict
+    ensures { λ v. ⌜ Vetted (now (bytes .entry)) v ⌝ }
 {
     if bytes.len() > LONGEST {
-        return Ok(Verdict::TooLong);
+        return Verdict::TooLong;
     }
-    let mut list = PointList::new(heap)?;
-    match list.load(heap, bytes) {
-        Ok(intervals) => {
-            let level = list.level();
+    match audit_bytes(bytes) {
+        Ok(Accepted { level, intervals }) => {
             let places = 1 << level;
-            Ok(Verdict::Net {
+            Verdict::Net {
                 places,
                 level,
                 intervals,
-            })
+            }
         }
-        Err(LoadFault::Length(size)) => Ok(Verdict::NoLevel(size)),
-        Err(LoadFault::Empty(fault)) => Ok(Verdict::Empty(fault)),
-        Err(LoadFault::Memory) => Err(AllocError),
+        Err(AuditFault::Length(size)) => Verdict::NoLevel(size),
+        Err(AuditFault::Empty(fault)) => Verdict::Empty(fault),
     }
 }
 

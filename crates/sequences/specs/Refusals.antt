@@ -13,6 +13,6 @@ abbrev pub level-told : LevelFault → Told
 level-told (TooHigh m) = refused 4 (m ∷ [])
 
 -- a plan of level m, or a refusal with 4 if m is over 12
-abbrev pub Made : {P : Type 0} → (level : P → ℕ) (m : ℕ) → Result P LevelFault → Type 0
-Made level m (Ok p) = (m ≤ 12) × (level p ≡ m)
-Made level m (Err e) = (12 < m) × (level-told e ≡ refused 4 (m ∷ []))
+abbrev pub OfLevel : {P : Type 0} → (level : P → ℕ) (m : ℕ) → Result P LevelFault → Type 0
+OfLevel level m (Ok p) = (m ≤ 12) × (level p ≡ m)
+OfLevel level m (Err e) = (12 < m) × (level-told e ≡ refused 4 (m ∷ []))

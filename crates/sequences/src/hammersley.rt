@@ -1,7 +1,7 @@
 // The points of Hammersley (1960) in two dimensions.
 ghost use mathlib.Core.Path.{_≡_};
 ghost use Prim.Native.Nat.{_^_, _<_, _≤_};
-ghost use Rattle.sequences.specs.Refusals.{Made};
+ghost use Rattle.sequences.specs.Refusals.{OfLevel};
 ghost use Rattle.sequences.specs.Sequences.{hammersley, hammersley-net};
 use crate::faults::LevelFault;
 use crate::steps::*;
@@ -19,7 +19,7 @@ pub struct Hammersley {
 impl Hammersley {
     // The plan of a level, which is refused if it is over 12.
     pub fn new(level: u32) -> Result<Hammersley, LevelFault>
-        ensures { λ r. ⌜ Made (λ p. p .level) level r ⌝ }
+        ensures { λ r. ⌜ OfLevel (λ p. p .level) level r ⌝ }
     {
         let level = checked_level(level)?;
         Ok(Hammersley { level })

@@ -4,7 +4,7 @@ ghost use Prim.Native.Nat.{_/_, _^_, _<_, _≤_};
 ghost use lib.Bits.{bitXor};
 ghost use Rattle.std.specs.Vec.{made};
 ghost use Rattle.nets.specs.Plans.{Placed};
-ghost use Rattle.sequences.specs.Refusals.{Made};
+ghost use Rattle.sequences.specs.Refusals.{OfLevel};
 ghost use Rattle.sequences.specs.Sequences.{sobol, sobol-net, xor-columns};
 use crate::faults::LevelFault;
 use crate::steps::*;
@@ -22,7 +22,7 @@ pub struct Sobol {
 impl Sobol {
     // The plan of a level, which is refused if it is over 12.
     pub fn new(level: u32) -> Result<Sobol, LevelFault>
-        ensures { λ r. ⌜ Made (λ p. p .level) level r ⌝ }
+        ensures { λ r. ⌜ OfLevel (λ p. p .level) level r ⌝ }
     {
         let level = checked_level(level)?;
         Ok(Sobol { level })

@@ -2,13 +2,13 @@
 ghost use mathlib.Core.Path.{_≡_};
 ghost use Prim.Native.Nat.{_-_, _*_, _^_, _<_, _≤_};
 ghost use Rattle.nets.specs.Digits.{digit, word};
-ghost use Rattle.sequences.specs.Refusals.{Made};
+ghost use Rattle.sequences.specs.Refusals.{OfLevel};
 use crate::faults::LevelFault;
 use nets::digit_of;
 
 // The level, which is refused if it is over 12.
 pub(crate) fn checked_level(level: u32) -> Result<u32, LevelFault>
-    ensures { λ r. ⌜ Made (λ m. m) level r ⌝ }
+    ensures { λ r. ⌜ OfLevel (λ m. m) level r ⌝ }
 {
     if level > 12 {
         Err(LevelFault::TooHigh(level))
