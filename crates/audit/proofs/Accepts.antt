@@ -6,7 +6,7 @@ use Prim.Native.Nat.{ℕ, _+_, _*_, _^_}
 use native.Mathlib.Omega.{arith}
 use Rattle.std.specs.declared.result.Result.{Result}
 use Rattle.std.specs.declared.result.Result.the-variants.{Ok, Err}
-use Rattle.nets.specs.Places.{Place, IsNet, held}
+use Rattle.nets.specs.Places.{Place, IsNet}
 use Rattle.nets.specs.Refusals.{Told}
 use Rattle.nets.proofs.Intervals.{held-from-net, same-level}
 use Rattle.audit.specs.declared.faults.AuditFault.{AuditFault}

@@ -13,7 +13,8 @@ use Rattle.nets.specs.Places.{Place, IsNet, held}
 use Rattle.nets.specs.Refusals.{Told, refused}
 use Rattle.audit.specs.declared.audits.Accepted.{Accepted}
 use Rattle.audit.specs.declared.faults.AuditFault.{AuditFault}
-use Rattle.audit.specs.Refusals.{audit-told}
+use Rattle.audit.specs.declared.faults.NotNet.{NotNet}
+use Rattle.audit.specs.Refusals.{net-told, audit-told}
 
 -- n is the length of no level's list, where each place has a length of its own
 abbrev pub NoLevel : (each n : ℕ) → Type 0
@@ -50,6 +51,11 @@ pub record NoNet (m : ℕ) (ps : List Place) (t : Told) : Type 0 where
 pub record Examined (m : ℕ) (ps : List Place) (n : ℕ) : Type 0 where
   pub net : IsNet m ps
   pub all : n ≡ (m + 1) * 2 ^ m
+
+-- what the audit of 2^m places answers
+abbrev pub Judged : (m : ℕ) → List Place → Result ℕ NotNet → Type 0
+Judged m ps (Ok n) = Examined m ps n
+Judged m ps (Err e) = NoNet m ps (net-told e)
 
 abbrev pub Audited : List Place → Result ℕ AuditFault → Type 0
 Audited ps (Ok n) = (m : ℕ) × Examined m ps n

@@ -1,6 +1,5 @@
 -- What the refusals of the audit and of loading tell: their numbers and values.
-use mathlib.Core.List.{List, [], _∷_}
-use Prim.Native.Nat.{ℕ}
+use mathlib.Core.List.{[], _∷_}
 use Rattle.nets.specs.Refusals.{Told, refused, no-memory}
 use Rattle.audit.specs.declared.faults.NotNet.{NotNet}
 use Rattle.audit.specs.declared.faults.AuditFault.{AuditFault}

@@ -4,12 +4,10 @@ ghost use mathlib.Core.Path.{_≡_};
 ghost use Prim.Native.Nat.{ℕ, _+_, _*_, _^_, _<_, _≤_};
 ghost use lib.ListN.{length, getD};
 ghost use Rattle.std.specs.Options.{Cases};
-ghost use Rattle.std.specs.Results.{Cases as ByOk};
 ghost use Rattle.std.specs.shelf.Lists.{All};
 ghost use Rattle.std.specs.declared.result.Result.the-variants.{Ok};
 ghost use Rattle.nets.specs.Places.{IsNet, OnPanel, number, held};
-ghost use Rattle.audit.specs.Audits.{NoLevel, First, Examined, NoNet, Audited, AuditedBytes};
-ghost use Rattle.audit.specs.Refusals.{net-told};
+ghost use Rattle.audit.specs.Audits.{NoLevel, First, Judged, Audited, AuditedBytes};
 use crate::faults::AuditFault;
 use crate::faults::AuditFromNotNet;
 use crate::faults::NotNet;
@@ -70,7 +68,7 @@ fn level_of(size: usize, each: usize) -> Option<u32>
 // The audit of 2^m places, wherever they come from.
 fn examine<S: Source>(m: u32, source: &S) -> Result<u32, NotNet>
     requires { ⌜ m ≤ 12 ⌝ ∗ ⌜ length (S·Source .list (now source)) ≡ 2 ^ m ⌝ }
-    ensures { λ r. ⌜ ByOk r (λ n. Examined m (S·Source .list (now (source .entry))) n) (λ e. NoNet m (S·Source .list (now (source .entry))) (net-told e)) ⌝ }
+    ensures { λ r. ⌜ Judged m (S·Source .list (now (source .entry))) r ⌝ }
 {
     let mut flags = [false; MOST];
     examine_by(m, source, &mut flags[0..1 << m])
@@ -80,7 +78,7 @@ fn examine<S: Source>(m: u32, source: &S) -> Result<u32, NotNet>
 fn examine_by<S: Source>(m: u32, source: &S, seen: &mut [bool]) -> Result<u32, NotNet>
     requires { ⌜ m ≤ 12 ⌝ }
     requires { ⌜ length (S·Source .list (now source)) ≡ 2 ^ m ⌝ ∗ ⌜ length (now seen) ≡ 2 ^ m ⌝ }
-    ensures { λ r. ⌜ ByOk r (λ n. Examined m (S·Source .list (now (source .entry))) n) (λ e. NoNet m (S·Source .list (now (source .entry))) (net-told e)) ⌝ }
+    ensures { λ r. ⌜ Judged m (S·Source .list (now (source .entry))) r ⌝ }
 {
     for depth in 0..depths(m) {
         if let Some(interval) = first_empty(m, depth, source, seen) {

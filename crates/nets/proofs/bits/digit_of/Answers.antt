@@ -1,5 +1,5 @@
-use mathlib.Core.Path.{_≡_, sym, ap}
-use Prim.Native.Nat.{_/_, _%_, _^_, _<_, _≤_}
+use mathlib.Core.Path.{sym, ap}
+use Prim.Native.Nat.{_%_, _^_, _<_, _≤_}
 use native.Mathlib.Nat.{div-eq-of-lt}
 use native.Mathlib.Omega.{arith}
 use lib.Pow.{pow-mono}

@@ -1,4 +1,4 @@
-use Prim.Native.Nat.{_^_, _<_, _≤_}
+use Prim.Native.Nat.{_^_, _≤_}
 use native.Mathlib.Omega.{arith}
 use lib.Pow.{pow-mono}
 use Rattle.nets.proofs.net.check_index.Needs as need

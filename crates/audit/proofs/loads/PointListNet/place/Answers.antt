@@ -1,8 +1,7 @@
-use mathlib.Core.Path.{sym, _∙_}
 use Prim.Native.Nat.{ℕ, _^_, _<_}
 use native.Mathlib.Omega.{arith}
 use lib.ListN.{length}
-use Rattle.std.specs.Of.Vec.{vec-items, vec-len}
+use Rattle.std.specs.Of.Vec.{vec-items}
 use Rattle.std.proofs.shelf.Lists.{getD-read}
 use Rattle.audit.specs.declared.points.PointList.{PointList}
 use Rattle.audit.proofs.Lists.{is-net}
