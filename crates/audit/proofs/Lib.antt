@@ -1,3 +1,4 @@
 mod Flags
+mod Sizes
 mod Accepts
 mod Lists

@@ -1,5 +1,5 @@
 -- Sums and counts: n things in n classes.
-use mathlib.Core.Path.{_≡_, refl, ap, _∙_}
+use mathlib.Core.Path.{_≡_, refl, sym, ap, _∙_}
 use mathlib.Core.Bool.{Bool, true, false}
 use mathlib.Core.List.{List, [], _∷_}
 use mathlib.Core.Logic.{_⊎_, ⊎-elim}
@@ -37,32 +37,26 @@ module _ {X : Type 0} (g : X → ℕ) (n : ℕ) where
       total-add n (λ k. one-if (eqb (g x) k)) (λ k. count (λ y. eqb (g y) k) xs)
       ∙ (let here = total-class (g x) n in let rest = spread xs hs in grind (arith, tells))
 
-module _ (f : ℕ → ℕ) where
-  total-least : (n : ℕ) → ((k : ℕ) → k < n → 1 ≤ f k) → n ≤ total n f
-  total-least zero h = omega arith
-  total-least (suc n) h = omega (arith, h n (omega arith), total-least n (λ k l. h k (omega arith)))
+pub total-ones : (n : ℕ) → total n (λ _. 1) ≡ n
+total-ones zero = refl
+total-ones (suc n) = omega (arith, total-ones n)
 
-  total-most : (n : ℕ) → ((k : ℕ) → k < n → f k ≤ 1) → total n f ≤ n
+-- equal sums of numbers of which each is at most the other
+module _ (f g : ℕ → ℕ) where
+  total-most : (n : ℕ) → ((k : ℕ) → k < n → f k ≤ g k) → total n f ≤ total n g
   total-most zero h = omega arith
   total-most (suc n) h = omega (arith, h n (omega arith), total-most n (λ k l. h k (omega arith)))
 
-  -- n classes of n things: if none is empty, each has one
-  pub none-empty : (n : ℕ) → ((k : ℕ) → k < n → 1 ≤ f k) → total n f ≡ n → (k : ℕ) → k < n → f k ≡ 1
-  none-empty zero h e k l = absurd (omega arith)
-  none-empty (suc n) h e k l =
-      let h′ : (j : ℕ) → j < n → 1 ≤ f j = λ j q. h j (omega arith) in
-      let least = total-least n h′ in
-      let last = h n (omega arith) in
-      ⊎-elim (λ (q : k < n). none-empty n h′ (omega arith) k q) (λ (q : n ≤ k). let z : k ≡ n = omega arith in ap f z ∙ omega arith) (cases-lt k n)
-
-  -- and if none has two, each has one
-  pub none-twice : (n : ℕ) → ((k : ℕ) → k < n → f k ≤ 1) → total n f ≡ n → (k : ℕ) → k < n → f k ≡ 1
-  none-twice zero h e k l = absurd (omega arith)
-  none-twice (suc n) h e k l =
-      let h′ : (j : ℕ) → j < n → f j ≤ 1 = λ j q. h j (omega arith) in
+  pub total-squeeze : (n : ℕ) → ((k : ℕ) → k < n → f k ≤ g k) → total n f ≡ total n g → (k : ℕ) → k < n → f k ≡ g k
+  total-squeeze zero h e k l = absurd (omega arith)
+  total-squeeze (suc n) h e k l =
+      let h′ : (j : ℕ) → j < n → f j ≤ g j = λ j q. h j (omega arith) in
       let most = total-most n h′ in
       let last = h n (omega arith) in
-      ⊎-elim (λ (q : k < n). none-twice n h′ (omega arith) k q) (λ (q : n ≤ k). let z : k ≡ n = omega arith in ap f z ∙ omega arith) (cases-lt k n)
+      ⊎-elim
+      (λ (q : k < n). total-squeeze n h′ (omega arith) k q)
+      (λ (q : n ≤ k). let z : k ≡ n = omega arith in let same : f n ≡ g n = omega arith in ap f z ∙ same ∙ ap g (sym z))
+      (cases-lt k n)
 
 module _ {X : Type 0} (p : X → Bool) (d : X) where
   -- where the count is 0, nothing passes

@@ -16,7 +16,7 @@ use mathlib.Core.Logic.{⊎-elim}
 use Rattle.std.proofs.shelf.Ways.{tells}
 use Rattle.nets.specs.Sums.{total, count}
 use Rattle.nets.specs.Places.{Place, OnPanel, top, lies, IsNet, number, held}
-use Rattle.nets.proofs.Counts.{spread, none-empty, none-twice, count-lone, lone-count, count-same}
+use Rattle.nets.proofs.Counts.{spread, total-ones, total-squeeze, count-lone, lone-count, count-same}
 
 pub pow-sum : (i j n : ℕ) → i + j ≡ n → 2 ^ i * 2 ^ j ≡ 2 ^ n
 pow-sum i j n e = sym (pow-add 2 i j) ∙ ap (λ z. 2 ^ z) e
@@ -70,10 +70,10 @@ module _ (m : ℕ) (ps : List Place) (hm : m ≤ 12) (long : length ps ≡ 2 ^ m
             ∙ one d hd (i * 2 ^ (m - d) + j) (omega (arith, mul-add-lt i (2 ^ (m - d)) j (2 ^ d) hi hj, pow-sum (m - d) d m (omega arith)));
       }
 
-  -- a list none of whose intervals is empty is a net
+  -- the counts of a depth's 2^m intervals add up to 2^m: a list none of whose intervals is empty is a net
   pub net-from-held : ((d n : ℕ) → d ≤ m → n < 2 ^ m → 1 ≤ held m d n ps) → IsNet m ps
   net-from-held hit =
-      net-by-numbers (λ d hd. none-empty (λ n. held m d n ps) (2 ^ m) (λ n. hit d n hd) (all-numbers m d ps hm hd inside long))
+      net-by-numbers (λ d hd n hn. sym (total-squeeze (λ _. 1) (λ n. held m d n ps) (2 ^ m) (λ n. hit d n hd) (total-ones (2 ^ m) ∙ sym (all-numbers m d ps hm hd inside long)) n hn))
 
   number-shares : (d : ℕ) → d ≤ m → (n j k : ℕ) → j < length ps → k < length ps → eqb (number m d (getD ps j (0, 0))) n ≡ true → eqb (number m d (getD ps k (0, 0))) n ≡ true → Shares m d (getD ps j (0, 0)) (getD ps k (0, 0))
   number-shares d hd n j k hj hk a b =
@@ -83,14 +83,15 @@ module _ (m : ℕ) (ps : List Place) (hm : m ≤ 12) (long : length ps ≡ 2 ^ m
       let s = digits (top d (p .0)) (top (m - d) (p .1)) (top d (q .0)) (top (m - d) (q .1)) (2 ^ (m - d)) (below p (all-getD OnPanel ps j (0, 0) hj inside)) (below q (all-getD OnPanel ps k (0, 0) hk inside)) (eqb-true _ _ a ∙ sym (eqb-true _ _ b)) in
       record { x = s .0; y = s .1 }
 
-  -- a list whose places lie apart is a net
+  -- and so is one whose places lie apart
   pub net-from-apart : ((d : ℕ) → d ≤ m → Apart m d ps) → IsNet m ps
   net-from-apart apart =
-      net-by-numbers (λ d hd. none-twice (λ n. held m d n ps) (2 ^ m)
+      net-by-numbers
+      (λ d hd. total-squeeze (λ n. held m d n ps) (λ _. 1) (2 ^ m)
       (λ n hn. count-lone (λ p. eqb (number m d p) n) (0, 0) ps (λ j k hj hk a b. apart d hd j k hj hk (number-shares d hd n j k hj hk a b)))
-      (all-numbers m d ps hm hd inside long))
+      (all-numbers m d ps hm hd inside long ∙ sym (total-ones (2 ^ m))))
 
--- and the places of a net lie apart
+-- the places of a net lie apart
 pub apart-from-net : (m : ℕ) (ps : List Place) → IsNet m ps → (d : ℕ) → d ≤ m → Apart m d ps
 apart-from-net m ps net d hd j k hj hk s =
     let p : Place = getD ps j (0, 0) in

@@ -6,6 +6,7 @@ use native.Mathlib.Nat.{mod-one, div-one}
 use native.Mathlib.Omega.{arith}
 use lib.Bits.{bitXor, xor-step, differ}
 use lib.Pow.{pow-add, shl-shr, shr-shr, mod-pow-add}
+use Rattle.std.proofs.shelf.Bits.{pow-below}
 use Rattle.std.proofs.shelf.Tests.{cases-lt}
 use Rattle.nets.specs.Digits.{digit, word}
 use Rattle.nets.specs.Places.{top}
@@ -21,6 +22,9 @@ word-same (suc n) b c h = omega (arith, h n (omega arith), word-same n b c (λ k
 pub word-below : (n : ℕ) (b : ℕ → ℕ) → Bits n b → word n b < 2 ^ n
 word-below zero b h = omega arith
 word-below (suc n) b h = omega (arith, h n (omega arith), word-below n b (λ k l. h k (omega arith)))
+
+pub word-under : (k n : ℕ) (b : ℕ → ℕ) → Bits k b → k < n → word k b < 2 ^ n
+word-under k n b h l = omega (arith, word-below k b h, pow-below k n l)
 
 -- the leading e digits
 pub word-front : (n e : ℕ) (b : ℕ → ℕ) → Bits n b → e ≤ n → word n b / 2 ^ (n - e) ≡ word e b

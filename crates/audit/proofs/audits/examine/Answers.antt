@@ -1,14 +1,10 @@
 use mathlib.Core.Path.{_≡_, _∙_}
 use Prim.Native.Nat.{ℕ, _-_, _*_, _%_, _^_, _≤_}
 use native.Mathlib.Omega.{arith}
-use lib.Pow.{pow-mono}
 use Rattle.std.proofs.shelf.Bits.{one-shl}
 use Rattle.std.proofs.shelf.Lists.{length-take-le}
+use Rattle.audit.proofs.Sizes.{few}
 use Rattle.audit.proofs.audits.examine.Needs as need
-
--- no level has more intervals than there are flags
-few : (m : ℕ) → m ≤ 12 → 2 ^ m ≤ 4096
-few m h = pow-mono h
 
 whole : (m : ℕ) → m ≤ 12 → 1 * 2 ^ m % 18446744073709551616 ≡ 2 ^ m
 whole m h = one-shl m 64 (omega arith)

@@ -3,16 +3,15 @@ use mathlib.Core.Path.{_≡_, refl}
 use Prim.Native.Nat.{ℕ, _+_, _*_, _%_, _^_, _<_, _≤_}
 use native.Mathlib.Nat.{mod-eq-of-lt}
 use native.Mathlib.Omega.{arith}
-use lib.Pow.{pow-mono}
 use Rattle.std.proofs.shelf.Bits.{mul-le}
 use Rattle.nets.specs.Places.{held}
 use Rattle.nets.proofs.Intervals.{net-from-held}
+use Rattle.audit.proofs.Sizes.{few}
 use Rattle.audit.proofs.audits.examine_by.Needs as need
 
 intervals : (m : ℕ) → m ≤ 12 → (m + 1) * 2 ^ m % 4294967296 ≡ (m + 1) * 2 ^ m
 intervals m h =
-    let few : 2 ^ m ≤ 2 ^ 12 = pow-mono h in
-    let small : (m + 1) * 2 ^ m < 4294967296 = omega (arith, mul-le (m + 1) (2 ^ m) 13 4096 (omega arith) few) in
+    let small : (m + 1) * 2 ^ m < 4294967296 = omega (arith, mul-le (m + 1) (2 ^ m) 13 4096 (omega arith) (few m h)) in
     mod-eq-of-lt small
 
 pub loop-depth-again : need.loop-depth-again

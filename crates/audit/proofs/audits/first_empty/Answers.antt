@@ -1,12 +1,12 @@
 use mathlib.Core.Path.{_≡_, subst}
 use Prim.Native.Nat.{ℕ, _*_, _%_, _^_, _≤_}
 use native.Mathlib.Omega.{arith}
-use lib.Pow.{pow-mono}
 use lib.ListN.{length, getD}
 use mathlib.Core.Bool.{true, false}
 use Rattle.std.proofs.shelf.Bits.{one-shl}
 use Rattle.audit.specs.Audits.{First}
 use Rattle.audit.proofs.Flags.{marks-none, marks-more, all-inside, first-held}
+use Rattle.audit.proofs.Sizes.{few}
 use Rattle.audit.proofs.audits.first_empty.Needs as need
 
 whole : (m : ℕ) → m ≤ 12 → (1 * 2 ^ m) % 4294967296 ≡ 2 ^ m
@@ -27,9 +27,7 @@ loop-i-again g c =
     marks-more _ _ _ _ _ (c .loop-i .inv) _ (c .at-x .result) (c .at-x .ensures) (seen .inside) (seen .value) (index-seen-interval-of g c)
 
 pub first-clear-requires : need.first-clear-requires
-first-clear-requires g c κs =
-    let few : 2 ^ c .args .m ≤ 2 ^ 12 = pow-mono (c .pre .0 .0) in
-    omega (arith, c .fill .ensures .len, c .pre .1 .1)
+first-clear-requires g c κs = omega (arith, few (c .args .m) (c .pre .0 .0), c .fill .ensures .len, c .pre .1 .1)
 
 pub returns : need.returns
 returns g c =

@@ -2,15 +2,14 @@ use mathlib.Core.Path.{_≡_, ap, _∙_}
 use Prim.Native.Nat.{ℕ, _+_, _^_, _<_}
 use native.Mathlib.Numerals.{add-one}
 use native.Mathlib.Omega.{arith}
-use Rattle.std.proofs.shelf.Bits.{pow-below}
 use Rattle.nets.specs.Digits.{digit, word}
 use Rattle.nets.specs.Places.{top}
-use Rattle.nets.proofs.Words.{word-below, digit-below}
+use Rattle.nets.proofs.Words.{word-under, digit-below}
 use Rattle.layers.specs.Layers.{flip}
 use Rattle.layers.proofs.scramble.flips.Needs as need
 
 small : (w x k : ℕ) → k < 6 → word k (flip w x) < 2 ^ 6
-small w x k h = omega (arith, word-below k (flip w x) (λ j _. digit-below w (2 ^ j + top j x)), pow-below k 6 h)
+small w x k = word-under k 6 (flip w x) (λ j _. digit-below w (2 ^ j + top j x))
 
 pub mul-flips : need.mul-flips
 mul-flips c = omega (arith, small (c .args .word) (c .args .x) (c .loop-k .k) (omega arith))

@@ -2,13 +2,13 @@ use mathlib.Core.Path.{_≡_, ap, _∙_}
 use Prim.Native.Nat.{ℕ, _^_, _<_}
 use native.Mathlib.Numerals.{add-one}
 use native.Mathlib.Omega.{arith}
-use Rattle.std.proofs.shelf.Bits.{pow-below}
 use Rattle.nets.specs.Digits.{digit, word}
+use Rattle.nets.proofs.Words.{word-under, digit-below}
 use Rattle.sequences.proofs.Coordinates.{reversed-below}
 use Rattle.sequences.proofs.steps.reversed.Needs as need
 
 small : (r i : ℕ) → r < 12 → word r (digit i) < 2 ^ 12
-small r i h = omega (arith, reversed-below r i, pow-below r 12 h)
+small r i = word-under r 12 (digit i) (λ k _. digit-below i k)
 
 pub mul-n : need.mul-n
 mul-n c = omega (arith, small (c .loop-r .r) (c .args .i) (omega arith))
