@@ -16,7 +16,7 @@ use Rattle.audit.specs.declared.faults.AuditFault.{AuditFault}
 use Rattle.audit.specs.declared.faults.NotNet.{NotNet}
 use Rattle.audit.specs.Refusals.{net-told, audit-told}
 
--- n is the length of no level's list, where each place has a length of its own
+-- n is each * 2^m for no level m
 abbrev pub NoLevel : (each n : ℕ) → Type 0
 NoLevel each n = (m : ℕ) → m ≤ 12 → n ≡ each * 2 ^ m → ⊥
 

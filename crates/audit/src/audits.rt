@@ -52,7 +52,7 @@ pub fn audit_bytes(bytes: &[u8]) -> Result<Accepted, AuditFault>
     Ok(Accepted { level, intervals })
 }
 
-// The level whose list has this size, where each place has a length of its own.
+// The level m at which 2^m places of this length each have this size.
 fn level_of(size: usize, each: usize) -> Option<u32>
     requires { ⌜ each ≤ 4 ⌝ }
     ensures { λ r. ⌜ Cases r (NoLevel each size) (λ m. (m ≤ 12) × (size ≡ each * 2 ^ m)) ⌝ }
@@ -106,7 +106,7 @@ fn interval_of(m: u32, d: u32, x: u16, y: u16) -> usize
     ((top_bits(d, x) << (m - d)) + top_bits(m - d, y)) as usize
 }
 
-// The number of the first empty interval of depth d. It has a flag for each interval.
+// The number of the first empty interval of depth d, by a flag for each interval.
 fn first_empty<S: Source>(m: u32, d: u32, source: &S, seen: &mut [bool]) -> Option<u32>
     requires { ⌜ m ≤ 12 ⌝ ∗ ⌜ d ≤ m ⌝ }
     requires { ⌜ length (S·Source .list (now source)) ≡ 2 ^ m ⌝ ∗ ⌜ length (now seen) ≡ 2 ^ m ⌝ }

@@ -1,16 +1,15 @@
 -- A net stays a net under a map of its places that takes no two of them into one interval.
 use mathlib.Core.Path.{_≡_, sym, subst, _∙_}
 use mathlib.Core.List.{List, map}
-use Prim.Native.Nat.{ℕ, _-_, _^_, _<_, _≤_}
+use Prim.Native.Nat.{ℕ, _-_, _<_, _≤_}
 use native.Mathlib.Omega.{arith}
-use lib.Bits.{xor-lt}
 use lib.ListN.{length, getD, length-map}
 use Rattle.std.proofs.shelf.Elements.{all-getD, all-map, all-weaker}
 use Rattle.std.proofs.shelf.Lists.{getD-map}
 use Rattle.nets.specs.Places.{Place, OnPanel, top, IsNet}
 use Rattle.nets.proofs.Intervals.{Shares, net-from-apart, apart-from-net}
-use Rattle.layers.specs.Layers.{shifted, scrambled-place, swapped}
-use Rattle.layers.proofs.Prefixes.{flipped, steady, scramble-top, scramble-below}
+use Rattle.layers.specs.Layers.{swapped}
+use Rattle.layers.proofs.Prefixes.{Keeps}
 
 -- places whose images share an interval of depth d share one of some depth
 abbrev Parts : (m : ℕ) → (Place → Place) → Type 0
@@ -26,27 +25,16 @@ net-mapped m ps f on parts net =
     let o = parts d (getD ps j (0, 0)) (getD ps k (0, 0)) hd (all-getD OnPanel ps j (0, 0) hj′ (net .inside)) (all-getD OnPanel ps k (0, 0) hk′ (net .inside)) (rw (at j hj′, at k hk′) at s) in
     apart-from-net m ps net (o .0) (o .1) j k hj′ hk′ (o .2))
 
-pub net-shifted : (m : ℕ) (ps : List Place) (s t : ℕ) → s < 2 ^ 16 → t < 2 ^ 16 → IsNet m ps → IsNet m (map (shifted s t) ps)
-net-shifted m ps s t hs ht net =
-    net-mapped m ps (shifted s t) (λ p h. (xor-lt 16 (p .0) s (h .0) hs, xor-lt 16 (p .1) t (h .1) ht))
-    (λ d p q hd hp hq sh. (
+-- a map of each coordinate
+pub net-by-coordinates : (m : ℕ) (ps : List Place) (f g : ℕ → ℕ) → Keeps f → Keeps g → IsNet m ps → IsNet m (map (λ p. (f (p .0), g (p .1))) ps)
+net-by-coordinates m ps f g F G net =
+    net-mapped m ps (λ p. (f (p .0), g (p .1))) (λ p h. (F .below (p .0) (h .0), G .below (p .1) (h .1)))
+    (λ d p q hd hp hq s. (
       d,
       hd,
       record {
-        x = flipped (λ _. s) (steady s) d (p .0) (q .0) (omega (arith, net .level)) (hp .0) (hq .0) (sh .x);
-        y = flipped (λ _. t) (steady t) (m - d) (p .1) (q .1) (omega (arith, net .level)) (hp .1) (hq .1) (sh .y);
-      },
-    )) net
-
-pub net-scrambled : (m : ℕ) (ps : List Place) (v w : ℕ) → IsNet m ps → IsNet m (map (scrambled-place v w) ps)
-net-scrambled m ps v w net =
-    net-mapped m ps (scrambled-place v w) (λ p h. (scramble-below v (p .0) (h .0), scramble-below w (p .1) (h .1)))
-    (λ d p q hd hp hq sh. (
-      d,
-      hd,
-      record {
-        x = scramble-top v d (p .0) (q .0) (omega (arith, net .level)) (hp .0) (hq .0) (sh .x);
-        y = scramble-top w (m - d) (p .1) (q .1) (omega (arith, net .level)) (hp .1) (hq .1) (sh .y);
+        x = F .tops d (p .0) (q .0) (omega (arith, net .level)) (hp .0) (hq .0) (s .x);
+        y = G .tops (m - d) (p .1) (q .1) (omega (arith, net .level)) (hp .1) (hq .1) (s .y);
       },
     )) net
 

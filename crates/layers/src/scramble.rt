@@ -4,7 +4,8 @@ ghost use mathlib.Core.Path.{_≡_};
 ghost use Prim.Native.Nat.{_+_, _*_, _^_, _<_};
 ghost use Rattle.nets.specs.Places.{top};
 ghost use Rattle.nets.specs.Digits.{word as word-of};
-ghost use Rattle.layers.specs.Layers.{flip, scrambled, scrambled-place};
+ghost use Rattle.layers.specs.Layers.{flip, scrambled-place};
+ghost use Rattle.layers.specs.Steps.{masked};
 use nets::Net;
 use nets::Place;
 use nets::PlaceFault;
@@ -31,7 +32,7 @@ impl<P> Scramble<P> {
     }
 
     fn scramble(&self, place: Place) -> Place
-        ensures { λ r. ⌜ r ≡ scrambled-place (now (self .entry) .«x_word») (now (self .entry) .«y_word») place ⌝ }
+        ensures { λ r. ⌜ r ≡ (masked (now (self .entry) .«x_word») (place .0), masked (now (self .entry) .«y_word») (place .1)) ⌝ }
     {
         let (x, y) = place;
         (scrambled_by(self.x_word, x), scrambled_by(self.y_word, y))
@@ -40,7 +41,7 @@ impl<P> Scramble<P> {
 
 // A coordinate with each of its top six bits flipped whose node's digit in the word is 1.
 fn scrambled_by(word: u64, x: u16) -> u16
-    ensures { λ r. ⌜ r ≡ scrambled word x ⌝ }
+    ensures { λ r. ⌜ r ≡ masked word x ⌝ }
 {
     x ^ top_six(flips(word, x))
 }

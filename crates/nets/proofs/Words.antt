@@ -2,7 +2,7 @@
 use mathlib.Core.Path.{_≡_, refl, sym, ap, subst, _∙_}
 use mathlib.Core.Logic.{⊎-elim}
 use Prim.Native.Nat.{ℕ, zero, suc, _+_, _-_, _*_, _/_, _%_, _^_, _<_, _≤_}
-use native.Mathlib.Nat.{mod-one, div-one}
+use native.Mathlib.Nat.{mod-one, div-one, div-eq-of-lt}
 use native.Mathlib.Omega.{arith}
 use lib.Bits.{bitXor, xor-step, differ}
 use lib.Pow.{pow-add, shl-shr, shr-shr, mod-pow-add}
@@ -112,6 +112,16 @@ digits-same (suc n) i j h =
 -- the top k bits are told by the top d
 pub top-fewer : (k d x : ℕ) → k ≤ d → d ≤ 16 → top k x ≡ top d x / 2 ^ (d - k)
 top-fewer k d x hk hd = let e : 16 - k ≡ (16 - d) + (d - k) = omega arith in ap (λ z. x / 2 ^ z) e ∙ sym (shr-shr x (16 - d) (d - k))
+
+-- the top k bits are the digits from weight 2^15 down
+pub top-digits : (k x : ℕ) → k ≤ 16 → x < 2 ^ 16 → top k x ≡ word k (λ j. digit x (15 - j))
+top-digits zero x hk hx = div-eq-of-lt hx
+top-digits (suc k) x hk hx =
+    let one : suc k - k ≡ 1 = omega arith in
+    let here : 16 - suc k ≡ 15 - k = omega arith in
+    let half : top k x ≡ top (suc k) x / 2 = top-fewer k (suc k) x (omega arith) hk ∙ ap (λ z. top (suc k) x / 2 ^ z) one in
+    let last : top (suc k) x % 2 ≡ digit x (15 - k) = ap (λ z. x / 2 ^ z % 2) here in
+    omega (arith, half, last, top-digits k x (omega arith) hx)
 
 -- the top bits of a number of m bits that is set as the top of a coordinate
 pub top-number : (m e n : ℕ) → m ≤ 16 → e ≤ m → top e (n * 2 ^ (16 - m)) ≡ n / 2 ^ (m - e)

@@ -1,5 +1,8 @@
-use Rattle.layers.proofs.Mapped.{net-shifted}
+use Rattle.layers.proofs.Mapped.{net-by-coordinates}
+use Rattle.layers.proofs.Prefixes.{shift-keeps}
 use Rattle.layers.proofs.shift.ShiftNet.show_net.Needs as need
 
 pub returns : need.returns
-returns g c = net-shifted _ _ _ _ (c .args .self .now .«s_fits») (c .args .self .now .«t_fits») (c .show-net .ensures)
+returns g c =
+    let l = c .args .self .now in
+    net-by-coordinates _ _ _ _ (shift-keeps (l .s) (l .«s_fits»)) (shift-keeps (l .t) (l .«t_fits»)) (c .show-net .ensures)
