@@ -1,4 +1,6 @@
 // The audit of lists of places, and the plan that is a customer's list.
+#![tactic(auto)]
+
 pub mod audits;
 pub mod faults;
 pub mod loads;

@@ -1,4 +1,6 @@
 // Box maps: weights on boxes, added.
+#![tactic(auto)]
+
 pub mod calls;
 pub mod map;
 pub mod row;

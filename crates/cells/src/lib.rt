@@ -1,4 +1,6 @@
 // Cell maps: a value for each of 8 by 8 squares.
+#![tactic(auto)]
+
 pub mod calls;
 pub mod map;
 mod table;

@@ -1,4 +1,6 @@
 // Coat maps: what coat to expect at each place of a panel.
+#![tactic(auto)]
+
 pub mod checks;
 pub mod coat_map;
 pub mod faults;

@@ -1,4 +1,6 @@
 // Worked figures and outside numbers, as tests.
+#![tactic(auto)]
+
 #[cfg(test)]
 mod audits;
 #[cfg(test)]

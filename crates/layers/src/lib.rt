@@ -1,4 +1,6 @@
 // Layers: each takes a plan, and is again a plan of the same level.
+#![tactic(auto)]
+
 pub mod choice;
 pub mod scramble;
 pub mod shift;

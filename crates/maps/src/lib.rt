@@ -1,4 +1,6 @@
 // A map of any kind.
+#![tactic(auto)]
+
 pub mod map;
 
 pub use map::Map;

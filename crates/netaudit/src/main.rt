@@ -1,4 +1,6 @@
 // netaudit: vets a customer's list of places, read from standard input.
+#![tactic(auto)]
+
 mod verdict;
 
 use std::io::Read;

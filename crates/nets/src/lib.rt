@@ -1,4 +1,6 @@
 // Measuring plans: nets of places in base two.
+#![tactic(auto)]
+
 pub mod bits;
 pub mod net;
 

@@ -1,5 +1,7 @@
 // What a net promises of a box, of a sum over its places, and of two sums. The functions do nothing
 // when they are run; their contracts are the theorems.
+#![tactic(auto)]
+
 ghost use Rattle.radius.specs.Claims.{BoxShares, SumsNear, SumsAgree};
 
 // Each box of a net holds its share of the places, but for one for each depth.

@@ -1,4 +1,6 @@
 // The plans of two sequences: Hammersley's, and the first two coordinates of Sobol's.
+#![tactic(auto)]
+
 pub mod faults;
 pub mod hammersley;
 pub mod sobol;

@@ -1,4 +1,6 @@
 // Step maps: steps along x times steps along y.
+#![tactic(auto)]
+
 pub mod calls;
 pub mod map;
 pub mod row;

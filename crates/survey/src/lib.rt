@@ -1,4 +1,6 @@
 // A survey: the coat of a map, added over the places of a plan.
+#![tactic(auto)]
+
 pub mod asks;
 pub mod calls;
 pub mod changes;
