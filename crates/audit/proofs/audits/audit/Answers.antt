@@ -4,13 +4,13 @@ use Rattle.audit.specs.Audits.{Audited}
 use Rattle.audit.proofs.Accepts.{accepted}
 use Rattle.audit.proofs.audits.audit.Goals as goal
 
-pub returns-in-err-examined : goal.returns-in-err-examined
-returns-in-err-examined c =
+pub returns-in_err-examined : goal.returns-in_err-examined
+returns-in_err-examined c =
     let p = err_from_is_err_and c.from-residual.result c.from-residual.ensures.1 in
-    let cases : Audited c.args.places.now c.from-residual.result = rw (p.1, p.2) (inr (c.in-Some.m, c.in-err-examined.ensures)) in
+    let cases : Audited c.args.places.now c.from-residual.result = rw (p.1, p.2) (inr (c.in-Some.m, c.in_err-examined.ensures)) in
     record { cases = cases; accepts = accepted _ _ cases }
 
 pub returns : goal.returns
 returns c =
-    let cases : Audited c.args.places.now (Ok c.in-ok-examined.examined) = (c.in-Some.m, c.in-ok-examined.ensures) in
+    let cases : Audited c.args.places.now (Ok c.in_ok-examined.examined) = (c.in-Some.m, c.in_ok-examined.ensures) in
     record { cases = cases; accepts = accepted _ _ cases }

@@ -7,11 +7,11 @@ use Rattle.audit.proofs.audits.examine.Goals as goal
 whole : (m : ℕ) → m ≤ 12 → 1 * 2 ^ m % 18446744073709551616 ≡ 2 ^ m
 whole m h = one_shl m 64 (omega arith)
 
-pub slice-bounds-flags-end : goal.slice-bounds-flags-end
-slice-bounds-flags-end g c = omega (arith, whole c.args.m c.requires.0, few c.args.m c.requires.0)
+pub slice_bounds-flags-end : goal.slice_bounds-flags-end
+slice_bounds-flags-end g c = omega (arith, whole c.args.m c.requires.0, few c.args.m c.requires.0)
 
-pub examine-by-requires : goal.examine-by-requires
-examine-by-requires g c = (
+pub examine_by-requires : goal.examine_by-requires
+examine_by-requires g c = (
   c.requires.0,
   (c.requires.1, length-take-le (1 * 2 ^ c.args.m % 18446744073709551616 - 0) _ (omega (arith, whole c.args.m c.requires.0, few c.args.m c.requires.0)) ∙ omega (arith, whole c.args.m c.requires.0)),
 )

@@ -12,8 +12,8 @@ intervals m h =
 
 pub loop-depth-preserved : goal.loop-depth-preserved
 loop-depth-preserved g c = (
-  λ h. c.first-empty.ensures.inside,
-  λ e k h. below_more (λ e. k < 2 ^ c.args.m → 1 ≤ held c.args.m e k (g.S.Source.list c.args.source.now)) _ (λ e h. c.loop-depth.invariant.1 e k h) (c.in-default.ensures.cases k) e h,
+  λ h. c.first_empty.ensures.inside,
+  λ e k h. below_more (λ e. k < 2 ^ c.args.m → 1 ≤ held c.args.m e k (g.S.Source.list c.args.source.now)) _ (λ e h. c.loop-depth.invariant.1 e k h) (c.in_default.ensures.cases k) e h,
 )
 
 pub returns-in-Some : goal.returns-in-Some
@@ -22,8 +22,8 @@ returns-in-Some g c =
     record {
       d = c.loop-depth.depth;
       n = c.in-Some.interval;
-      level = c.requires.0;
-      long = c.requires.1.0;
+      level = c.requires.m_bound;
+      long = c.requires.source_len.0;
       first =
           record {
             depth = omega arith;
@@ -37,6 +37,6 @@ returns-in-Some g c =
 
 pub returns : goal.returns
 returns g c = record {
-  net = net_from_held c.args.m _ c.requires.0 c.requires.1.0 (c.loop-depth.invariant.0 (omega arith)) (λ d n hd hn. c.loop-depth.invariant.1 d n (omega arith) hn);
-  all = rw c.depths.ensures (intervals c.args.m c.requires.0);
+  net = net_from_held c.args.m _ c.requires.m_bound c.requires.source_len.0 (c.loop-depth.invariant.0 (omega arith)) (λ d n hd hn. c.loop-depth.invariant.1 d n (omega arith) hn);
+  all = rw c.depths.ensures (intervals c.args.m c.requires.m_bound);
 }

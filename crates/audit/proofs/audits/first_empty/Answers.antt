@@ -11,27 +11,27 @@ whole m h = one_shl m 32 (omega arith)
 pub loop-i-init : goal.loop-i-init
 loop-i-init g c = rw (c.fill.ensures.after (λ y e. e)) (marks_none _ _ _ _)
 
-pub at-x-requires : goal.at-x-requires
-at-x-requires g c = omega (arith, whole c.args.m c.requires.0.0, c.requires.1.0)
+pub at_x-requires : goal.at_x-requires
+at_x-requires g c = omega (arith, whole c.args.m c.requires.m_bound.0, c.requires.source_len.0)
 
-pub bounds-seen-interval-of : goal.bounds-seen-interval-of
-bounds-seen-interval-of g c = omega (arith, c.interval-of.ensures.bound, c.fill.ensures.len, c.requires.1.1)
+pub bounds-seen-interval_of : goal.bounds-seen-interval_of
+bounds-seen-interval_of g c = omega (arith, c.interval_of.ensures.bound, c.fill.ensures.len, c.requires.1.1)
 
 pub loop-i-preserved : goal.loop-i-preserved
 loop-i-preserved g c =
-    let seen = c.interval-of.ensures in
-    marks_more _ _ _ _ _ c.loop-i.invariant _ c.at-x.result c.at-x.ensures seen.inside seen.value (bounds-seen-interval-of g c)
+    let seen = c.interval_of.ensures in
+    marks_more _ _ _ _ _ c.loop-i.invariant _ c.at_x.result c.at_x.ensures seen.inside seen.value (bounds-seen-interval_of g c)
 
-pub first-clear-requires : goal.first-clear-requires
-first-clear-requires g c = omega (arith, few c.args.m c.requires.0.0, c.fill.ensures.len, c.requires.1.1)
+pub first_clear-requires : goal.first_clear-requires
+first_clear-requires g c = omega (arith, few c.args.m c.requires.0.0, c.fill.ensures.len, c.requires.1.1)
 
 pub returns : goal.returns
 returns g c =
-    let all : c.loop-i.i ≡ length (g.S.Source.list c.args.source.now) = omega (arith, whole c.args.m c.requires.0.0, c.requires.1.0) in
-    let flags : length c.loop-i.seen ≡ 2 ^ c.args.m = omega (arith, c.fill.ensures.len, c.requires.1.1) in
+    let all : c.loop-i.i ≡ length (g.S.Source.list c.args.source.now) = omega (arith, whole c.args.m c.requires.m_bound.0, c.requires.source_len.0) in
+    let flags : length c.loop-i.seen ≡ 2 ^ c.args.m = omega (arith, c.fill.ensures.len, c.requires.source_len.1) in
     record {
       inside = all_inside _ _ _ _ _ c.loop-i.invariant all;
       cases =
           first_held _ _ _ _ _ c.loop-i.invariant all (2 ^ c.args.m) _
-          (subst (λ n. First n (λ k. get_or c.loop-i.seen k false ≡ true) (λ k. get_or c.loop-i.seen k false ≡ false) c.first-clear.result) flags c.first-clear.ensures);
+          (subst (λ n. First n (λ k. get_or c.loop-i.seen k false ≡ true) (λ k. get_or c.loop-i.seen k false ≡ false) c.first_clear.result) flags c.first_clear.ensures);
     }

@@ -13,4 +13,4 @@ returns c =
     let below = number_below m d p c.requires.0 c.requires.1 inside in
     let small : top d p.0 * 2 ^ (m - d) < 4294967296 = omega (arith, few m c.requires.0) in
     let value : top d p.0 * 2 ^ (m - d) % 4294967296 + top (m - d) p.1 ≡ number m d p = ap (λ z. z + top (m - d) p.1) (mod-eq_of_lt small) in
-    rw (c.top-bits.ensures, c.top-bits-2.ensures) (record { value = value; bound = rw value below; inside = inside })
+    rw (c.top_bits.ensures, c.top_bits-2.ensures) (record { value = value; bound = rw value below; inside = inside })

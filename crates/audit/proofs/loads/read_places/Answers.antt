@@ -6,5 +6,5 @@ use Rattle.audit.proofs.loads.read_places.Goals as goal
 
 pub loop-i-preserved : goal.loop-i-preserved
 loop-i-preserved c =
-    pushed _ c.loop-i.invariant c.in-ok-push.was c.push.ensures.items
-    ∙ rw c.place-at.ensures (sym (map-range_with_len_more (place_at c.args.bytes.now) 0 _ _ (zero-add _)))
+    pushed _ c.loop-i.invariant c.in_ok-push.was c.push.ensures.items
+    ∙ rw c.place_at.ensures (sym (map-range_with_len_more (place_at c.args.bytes.now) 0 _ _ (zero-add _)))

@@ -7,11 +7,11 @@ use Rattle.sequences.proofs.steps.reversed.Goals as goal
 small : (r i : ℕ) → r < 12 → word r (digit i) < 2 ^ 12
 small r i = word_under r 12 (digit i) (λ k _. digit_below i k)
 
-pub overflow-mul-n : goal.overflow-mul-n
-overflow-mul-n c = omega (arith, small c.loop-r.r c.args.i (omega arith))
+pub overflow_mul-n : goal.overflow_mul-n
+overflow_mul-n c = omega (arith, small c.loop-r.r c.args.i (omega arith))
 
-pub overflow-add-n : goal.overflow-add-n
-overflow-add-n c = omega (arith, small c.loop-r.r c.args.i (omega arith))
+pub overflow_add-n : goal.overflow_add-n
+overflow_add-n c = omega (arith, small c.loop-r.r c.args.i (omega arith))
 
 pub loop-r-preserved : goal.loop-r-preserved
 loop-r-preserved c = rw add-one (omega arith)

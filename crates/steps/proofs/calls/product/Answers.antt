@@ -5,8 +5,8 @@ use Rattle.steps.proofs.calls.product.Goals as goal
 narrow : (z : ℤ) → nat_abs z ≤ 16384 → SFits w32 (to_z w64 (of_z w64 z))
 narrow z h = omega (arith, ints)
 
-pub overflow-cast-result : goal.overflow-cast-result
-overflow-cast-result c =
+pub overflow_cast-result : goal.overflow_cast-result
+overflow_cast-result c =
     let fa : SFits w64 c.from.result = search rules in
     let fb : SFits w64 c.from-2.result = search rules in
     let a : to_z w64 (of_z w64 c.from.result) ≡ c.args.a = to_z-of_z w64 _ fa ∙ c.from.ensures ∙ to_z-of_z w32 _ c.ranges.a in

@@ -25,14 +25,14 @@ module _ {X : Type 0} (all came rest : List X) (is : all ≡ came ++ rest) where
 
 pub loop-call-init : goal.loop-call-init
 loop-call-init g c =
-    (refl, refl, omega (arith, c.in-ok-answers.ensures, c.len.ensures, c.args.calls.ok.0, ap length c.into-iter-call-iterator.ensures.into-iter-gives.0), leads_none (plans g.P.Net.level g.P.Net.places) g.M.CoatMap.terms (Survey c.open.result))
+    (refl, refl, omega (arith, c.in_ok-answers.ensures, c.len.ensures, c.args.calls.ok.0, ap length c.into-iter-call-iterator.ensures.into-iter-gives.0), leads_none (plans g.P.Net.level g.P.Net.places) g.M.CoatMap.terms (Survey c.open.result))
 
 pub index-mut-requires : goal.index-mut-requires
 index-mut-requires g c =
     omega (arith, c.loop-call.invariant.1, c.loop-call.invariant.2, within _ c.loop-call.yielded _ c.loop-call.invariant.0 c.in-Some.call (into_iter_items c.next.new.self) c.in-Some.ensures.steps.0)
 
-pub overflow-add-at : goal.overflow-add-at
-overflow-add-at g c =
+pub overflow_add-at : goal.overflow_add-at
+overflow_add-at g c =
     let inside = within _ c.loop-call.yielded _ c.loop-call.invariant.0 c.in-Some.call (into_iter_items c.next.new.self) c.in-Some.ensures.steps.0 in
     let room : c.loop-call.at < vec_len c.loop-call.answers = omega (arith, c.loop-call.invariant.1, c.loop-call.invariant.2, inside) in
     search rules

@@ -8,9 +8,9 @@ within : (p : PointList) (i : ℕ) → i < 2 ^ p.level → i < length (vec_items
 within p i h = omega (arith, (is_net p).long)
 
 pub at-requires : goal.at-requires
-at-requires c = omega (arith, within c.args.self.now c.args.i c.in-ok-check-index.ensures, c.args.self.now.places.ok.0)
+at-requires c = omega (arith, within c.args.self.now c.args.i c.in_ok-check_index.ensures, c.args.self.now.places.ok.0)
 
 pub returns : goal.returns
 returns c =
-    let below = c.in-ok-check-index.ensures in
+    let below = c.in_ok-check_index.ensures in
     (below, get_or_read _ _ _ (within c.args.self.now c.args.i below) c.at.ensures (0, 0))

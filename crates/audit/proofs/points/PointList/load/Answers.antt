@@ -2,7 +2,7 @@ use Rattle.std.proofs.Common.{sym, subst}
 use Rattle.nets.specs.Places.{IsNet}
 use Rattle.audit.proofs.points.PointList.load.Goals as goal
 
-pub invariant-of-drop : goal.invariant-of-drop
-invariant-of-drop c =
-    let net = c.in-ok-net.ensures.1.net in
-    (net.level, (∣ subst (IsNet c.in-ok-net.net.level) (sym c.in-ok-places.ensures) net ∣₁, tt))
+pub invariant_of-drop : goal.invariant_of-drop
+invariant_of-drop c =
+    let net = c.in_ok-net.ensures.1.net in
+    (net.level, (∣ subst (IsNet c.in_ok-net.net.level) (sym c.in_ok-places.ensures) net ∣₁, tt))

@@ -7,5 +7,5 @@ use Rattle.audit.proofs.points.PointList.new.Goals as goal
 lone : IsNet 0 ((0, 0) ∷ [])
 lone = net_from_apart 0 ((0, 0) ∷ []) (omega arith) refl ((omega arith, omega arith), tt) (λ d hd j k hj hk s. omega arith)
 
-pub invariant-of-result : goal.invariant-of-result
-invariant-of-result c = (omega arith, (∣ subst (IsNet 0) (sym c.in-ok-places.ensures) lone ∣₁, tt))
+pub invariant_of-result : goal.invariant_of-result
+invariant_of-result c = (omega arith, (∣ subst (IsNet 0) (sym c.in_ok-places.ensures) lone ∣₁, tt))

@@ -5,7 +5,7 @@ use Rattle.boxes.specs.declared.row.BoxRow.{BoxRow}
 use Rattle.boxes.specs.Rows.{boxes_terms}
 use Rattle.boxes.proofs.map.Boxes.new.Goals as goal
 
-pub invariant-of-result : goal.invariant-of-result
-invariant-of-result c =
+pub invariant_of-result : goal.invariant_of-result
+invariant_of-result c =
     let e : vec_items c.new.result ≡ [] = search rules in
     (omega (arith, ap length e), (∣ subst (λ (rows : List BoxRow). All Sides (boxes_terms rows)) (sym e) tt ∣₁, (ap (λ (rows : List BoxRow). weight (boxes_terms rows)) (sym e), (omega arith, tt))))

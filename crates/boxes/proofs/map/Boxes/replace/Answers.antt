@@ -6,13 +6,13 @@ use Rattle.boxes.specs.Rows.{boxes_terms}
 use Rattle.boxes.proofs.Corners.{boxes_sides}
 use Rattle.boxes.proofs.map.Boxes.replace.Goals as goal
 
-pub invariant-of-drop : goal.invariant-of-drop
-invariant-of-drop c =
-    let same : vec_items c.in-ok-rows.rows ≡ c.args.rows.now = search rules in
-    let w = c.in-ok-weight.ensures in (
-      omega (arith, ap length same, c.in-ok-check-few.ensures),
+pub invariant_of-drop : goal.invariant_of-drop
+invariant_of-drop c =
+    let same : vec_items c.in_ok-rows.rows ≡ c.args.rows.now = search rules in
+    let w = c.in_ok-weight.ensures in (
+      omega (arith, ap length same, c.in_ok-check_few.ensures),
       (
-        ∣ subst (λ (rows : List BoxRow). All Sides (boxes_terms rows)) (sym same) (boxes_sides _ c.in-default.ensures) ∣₁,
+        ∣ subst (λ (rows : List BoxRow). All Sides (boxes_terms rows)) (sym same) (boxes_sides _ c.in_default.ensures) ∣₁,
         (w.0 ∙ c.weigh.ensures ∙ ap (λ (rows : List BoxRow). weight (boxes_terms rows)) (sym same), (omega (arith, w), tt)),
       ),
     )

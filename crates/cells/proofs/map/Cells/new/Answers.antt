@@ -3,6 +3,6 @@ use Rattle.coats.specs.Terms.{weight}
 use Rattle.cells.specs.Cells.{cells_terms}
 use Rattle.cells.proofs.map.Cells.new.Goals as goal
 
-pub invariant-of-result : goal.invariant-of-result
+pub invariant_of-result : goal.invariant_of-result
 unfolding cells_terms
-invariant-of-result c = (ap (λ (f : ℕ → ℕ → ℤ). weight (cells_terms f)) (sym (λ i r s. c.zero.ensures r s i)), (omega arith, tt))
+invariant_of-result c = (ap (λ (f : ℕ → ℕ → ℤ). weight (cells_terms f)) (sym (λ i r s. c.zero.ensures r s i)), (omega arith, tt))

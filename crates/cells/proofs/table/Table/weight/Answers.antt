@@ -10,7 +10,7 @@ use Rattle.cells.proofs.table.Table.weight.Goals as goal
 pub loop-r-preserved : goal.loop-r-preserved
 loop-r-preserved c =
     let step = sum_by-map-range_with_len_more (λ (n : ℕ). n) (λ r. weight (row_terms (held c.args.self.now) r)) 0 c.loop-r.r c.loop-r.r (zero-add _) in
-    omega (arith, c.row-weight-sum.ensures)
+    omega (arith, c.row_weight-sum.ensures)
 
 pub returns : goal.returns
 returns c =

@@ -19,6 +19,6 @@ module _ (v w : ℕ) where
 
 pub returns : goal.returns
 returns g c =
-    let net = c.show-net.ensures in
-    let found = c.in-ok-place.ensures in
+    let net = c.show_net.ensures in
+    let found = c.in_ok-place.ensures in
     (found.0, masked_at _ _ _ _ _ _ net.inside (omega (arith, net.long, found.0)) found.1 c.scramble.ensures)

@@ -5,6 +5,6 @@ use Rattle.sequences.proofs.hammersley.HammersleyNet.place.Goals as goal
 
 pub returns : goal.returns
 returns c =
-    let h = c.in-ok-check-index.ensures in
+    let h = c.in_ok-check_index.ensures in
     let m = c.args.self.now.level in
     (h, c.point.ensures ∙ sym (place_at m (hammersley m) c.args.i h))

@@ -7,7 +7,7 @@ use Rattle.sequences.proofs.sobol.SobolNet.place.Goals as goal
 
 pub returns : goal.returns
 returns c =
-    let h = c.in-ok-check-index.ensures in
+    let h = c.in_ok-check_index.ensures in
     let m = c.args.self.now.level in
     let i = c.args.i in
     let pair : ℕ → Place = λ y. ((sobol m i).0, y) in

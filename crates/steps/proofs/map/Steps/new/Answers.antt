@@ -5,8 +5,8 @@ use Rattle.steps.specs.declared.row.Step.{Step}
 use Rattle.steps.specs.Rows.{steps_terms}
 use Rattle.steps.proofs.map.Steps.new.Goals as goal
 
-pub invariant-of-result : goal.invariant-of-result
-invariant-of-result c =
+pub invariant_of-result : goal.invariant_of-result
+invariant_of-result c =
     let x : vec_items c.new.result ≡ [] = search rules in
     let y : vec_items c.new-2.result ≡ [] = search rules in
     let none = sym (ap (λ (xs : List Step). steps_terms xs (vec_items c.new-2.result)) x) in

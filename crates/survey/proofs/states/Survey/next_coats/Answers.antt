@@ -13,8 +13,8 @@ loop-i-preserved g c =
     let n = s.count in
     let ps = g.P.Net.places s.plan in
     let ts = g.M.CoatMap.terms s.map in
-    let net = c.show-net.ensures in
+    let net = c.show_net.ensures in
     let long : i < length (drop n ps) = omega (arith, net.long, length-drop n ps) in
     let step : added ts (take (i + 1) (drop n ps)) ≡ added ts (take i (drop n ps)) +ℤ coat ts (get_or (drop n ps) i (0, 0)) = sum_of_more (coat ts) (drop n ps) i (0, 0) long in
-    let here : c.next-coat.result ≡ coat ts (get_or (drop n ps) i (0, 0)) = c.next-coat.ensures.value ∙ ap (coat ts) (sym (get_or-drop n ps i (0, 0))) in
+    let here : c.next_coat.result ≡ coat ts (get_or (drop n ps) i (0, 0)) = c.next_coat.ensures.value ∙ ap (coat ts) (sym (get_or-drop n ps i (0, 0))) in
     (omega (arith, ints), omega (arith, ints))

@@ -4,8 +4,8 @@ use Rattle.survey.specs.Calls.{plans, Takes}
 use Rattle.survey.proofs.Takes.{take_lives}
 use Rattle.survey.proofs.states.Survey.take.Goals as goal
 
-pub invariant-of-self : goal.invariant-of-self
-invariant-of-self g c = (omega arith, (omega (arith, ints), tt))
+pub invariant_of-self : goal.invariant_of-self
+invariant_of-self g c = (omega arith, (omega (arith, ints), tt))
 
 pub returns : goal.returns
 returns g c =
