@@ -6,8 +6,8 @@ use Rattle.audit.proofs.audits.audit.Goals as goal
 
 pub returns-in_err-examined : goal.returns-in_err-examined
 returns-in_err-examined c =
-    let p = err_from_is_err_and c.from-residual.result c.from-residual.ensures.1 in
-    let cases : Audited c.args.places.now c.from-residual.result = rw (p.1, p.2) (inr (c.in-Some.m, c.in_err-examined.ensures)) in
+    let p = err_from_is_err_and c.from_residual.result c.from_residual.ensures.1 in
+    let cases : Audited c.args.places.now c.from_residual.result = rw (p.1, p.2) (inr (c.in-Some.m, c.in_err-examined.ensures)) in
     record { cases = cases; accepts = accepted _ _ cases }
 
 pub returns : goal.returns

@@ -11,7 +11,8 @@ pub slice_bounds-flags-end : goal.slice_bounds-flags-end
 slice_bounds-flags-end g c = omega (arith, whole c.args.m c.requires.0, few c.args.m c.requires.0)
 
 pub examine_by-requires : goal.examine_by-requires
-examine_by-requires g c = (
-  c.requires.0,
-  (c.requires.1, length-take-le (1 * 2 ^ c.args.m % 18446744073709551616 - 0) _ (omega (arith, whole c.args.m c.requires.0, few c.args.m c.requires.0)) ∙ omega (arith, whole c.args.m c.requires.0)),
-)
+examine_by-requires g c = record {
+  m_bound = c.requires.0;
+  source_len =
+      (c.requires.1, length-take-le (1 * 2 ^ c.args.m % 18446744073709551616 - 0) _ (omega (arith, whole c.args.m c.requires.0, few c.args.m c.requires.0)) ∙ omega (arith, whole c.args.m c.requires.0));
+}

@@ -11,19 +11,19 @@ whole m h = one_shl m 32 (omega arith)
 pub loop-i-init : goal.loop-i-init
 loop-i-init g c = rw (c.fill.ensures.after (λ y e. e)) (marks_none _ _ _ _)
 
-pub at_x-requires : goal.at_x-requires
-at_x-requires g c = omega (arith, whole c.args.m c.requires.m_bound.0, c.requires.source_len.0)
+pub at-x-requires : goal.at-x-requires
+at-x-requires g c = omega (arith, whole c.args.m c.requires.m_bound.0, c.requires.source_len.0)
 
 pub bounds-seen-interval_of : goal.bounds-seen-interval_of
-bounds-seen-interval_of g c = omega (arith, c.interval_of.ensures.bound, c.fill.ensures.len, c.requires.1.1)
+bounds-seen-interval_of g c = omega (arith, c.interval_of.ensures.bound, c.fill.ensures.len, c.requires.source_len.1)
 
 pub loop-i-preserved : goal.loop-i-preserved
 loop-i-preserved g c =
     let seen = c.interval_of.ensures in
-    marks_more _ _ _ _ _ c.loop-i.invariant _ c.at_x.result c.at_x.ensures seen.inside seen.value (bounds-seen-interval_of g c)
+    marks_more _ _ _ _ _ c.loop-i.invariant _ c.at-x.result c.at-x.ensures seen.inside seen.value (bounds-seen-interval_of g c)
 
 pub first_clear-requires : goal.first_clear-requires
-first_clear-requires g c = omega (arith, few c.args.m c.requires.0.0, c.fill.ensures.len, c.requires.1.1)
+first_clear-requires g c = omega (arith, few c.args.m c.requires.m_bound.0, c.fill.ensures.len, c.requires.source_len.1)
 
 pub returns : goal.returns
 returns g c =

@@ -5,4 +5,4 @@ use Rattle.audit.proofs.points.PointList.load.Goals as goal
 pub invariant_of-drop : goal.invariant_of-drop
 invariant_of-drop c =
     let net = c.in_ok-net.ensures.1.net in
-    (net.level, (∣ subst (IsNet c.in_ok-net.net.level) (sym c.in_ok-places.ensures) net ∣₁, tt))
+    record { low = net.level; ok = ∣ subst (IsNet c.in_ok-net.net.level) (sym c.in_ok-places.ensures) net ∣₁ }

@@ -8,4 +8,9 @@ use Rattle.boxes.proofs.map.Boxes.new.Goals as goal
 pub invariant_of-result : goal.invariant_of-result
 invariant_of-result c =
     let e : vec_items c.new.result ≡ [] = search rules in
-    (omega (arith, ap length e), (∣ subst (λ (rows : List BoxRow). All Sides (boxes_terms rows)) (sym e) tt ∣₁, (ap (λ (rows : List BoxRow). weight (boxes_terms rows)) (sym e), (omega arith, tt))))
+    record {
+      few = omega (arith, ap length e);
+      sides = ∣ subst (λ (rows : List BoxRow). All Sides (boxes_terms rows)) (sym e) tt ∣₁;
+      weighs = ap (λ (rows : List BoxRow). weight (boxes_terms rows)) (sym e);
+      light = omega arith;
+    }

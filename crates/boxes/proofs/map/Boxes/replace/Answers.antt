@@ -9,10 +9,10 @@ use Rattle.boxes.proofs.map.Boxes.replace.Goals as goal
 pub invariant_of-drop : goal.invariant_of-drop
 invariant_of-drop c =
     let same : vec_items c.in_ok-rows.rows ≡ c.args.rows.now = search rules in
-    let w = c.in_ok-weight.ensures in (
-      omega (arith, ap length same, c.in_ok-check_few.ensures),
-      (
-        ∣ subst (λ (rows : List BoxRow). All Sides (boxes_terms rows)) (sym same) (boxes_sides _ c.in_default.ensures) ∣₁,
-        (w.0 ∙ c.weigh.ensures ∙ ap (λ (rows : List BoxRow). weight (boxes_terms rows)) (sym same), (omega (arith, w), tt)),
-      ),
-    )
+    let w = c.in_ok-weight.ensures in
+    record {
+      few = omega (arith, ap length same, c.in_ok-check_few.ensures);
+      sides = ∣ subst (λ (rows : List BoxRow). All Sides (boxes_terms rows)) (sym same) (boxes_sides _ c.in_default.ensures) ∣₁;
+      weighs = w.0 ∙ c.weigh.ensures ∙ ap (λ (rows : List BoxRow). weight (boxes_terms rows)) (sym same);
+      light = omega (arith, w);
+    }

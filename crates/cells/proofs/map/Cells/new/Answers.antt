@@ -5,4 +5,7 @@ use Rattle.cells.proofs.map.Cells.new.Goals as goal
 
 pub invariant_of-result : goal.invariant_of-result
 unfolding cells_terms
-invariant_of-result c = (ap (λ (f : ℕ → ℕ → ℤ). weight (cells_terms f)) (sym (λ i r s. c.zero.ensures r s i)), (omega arith, tt))
+invariant_of-result c = record {
+  weighs = ap (λ (f : ℕ → ℕ → ℤ). weight (cells_terms f)) (sym (λ i r s. c.zero.ensures r s i));
+  light = omega arith;
+}

@@ -10,4 +10,9 @@ invariant_of-result c =
     let x : vec_items c.new.result ≡ [] = search rules in
     let y : vec_items c.new-2.result ≡ [] = search rules in
     let none = sym (ap (λ (xs : List Step). steps_terms xs (vec_items c.new-2.result)) x) in
-    ((omega (arith, ap length x), omega (arith, ap length y)), (∣ subst (All Sides) none tt ∣₁, (ap weight none, (omega arith, tt))))
+    record {
+      few = (omega (arith, ap length x), omega (arith, ap length y));
+      sides = ∣ subst (All Sides) none tt ∣₁;
+      weighs = ap weight none;
+      light = omega arith;
+    }

@@ -12,10 +12,10 @@ invariant_of-drop c =
     let y : vec_items c.in_ok-y.y ≡ c.args.y.now = search rules in
     let few = c.in_ok-check_few.ensures in
     let w = c.in_ok-weight.ensures in
-    let same = ap (λ (xs : List Step). steps_terms xs c.args.y.now) (sym x) ∙ ap (steps_terms (vec_items c.in_ok-x.x)) (sym y) in (
-      (omega (arith, ap length x, few), omega (arith, ap length y, few)),
-      (
-        ∣ subst (All Sides) same (steps_sides c.args.x.now c.args.y.now c.in_ok-check_bounds.ensures) ∣₁,
-        (w.0 ∙ c.weigh.ensures ∙ ap weight same, (omega (arith, w), tt)),
-      ),
-    )
+    let same = ap (λ (xs : List Step). steps_terms xs c.args.y.now) (sym x) ∙ ap (steps_terms (vec_items c.in_ok-x.x)) (sym y) in
+    record {
+      few = (omega (arith, ap length x, few), omega (arith, ap length y, few));
+      sides = ∣ subst (All Sides) same (steps_sides c.args.x.now c.args.y.now c.in_ok-check_bounds.ensures) ∣₁;
+      weighs = w.0 ∙ c.weigh.ensures ∙ ap weight same;
+      light = omega (arith, w);
+    }

@@ -5,7 +5,7 @@ use Rattle.survey.proofs.Takes.{take_lives}
 use Rattle.survey.proofs.states.Survey.take.Goals as goal
 
 pub invariant_of-self : goal.invariant_of-self
-invariant_of-self g c = (omega arith, (omega (arith, ints), tt))
+invariant_of-self g c = record { few = omega arith; small = omega (arith, ints) }
 
 pub returns : goal.returns
 returns g c =
