@@ -25,10 +25,10 @@ module _ {X : Type 0} (all came rest : List X) (is : all ≡ came ++ rest) where
 
 pub loop-call-init : goal.loop-call-init
 loop-call-init g c =
-    (refl, refl, omega (arith, c.in_ok-answers.ensures, c.len.ensures, c.args.calls.ok.0, ap length c.into-iter-call-iterator.ensures.into-iter-gives.0), leads_none (plans g.P.Net.level g.P.Net.places) g.M.CoatMap.terms (Survey c.open.result))
+    (refl, refl, omega (arith, c.in_ok-answers.ensures, c.len.ensures, c.args.calls.ok.0, ap length c.into_iter-call-iterator.ensures.into_iter_gives.0), leads_none (plans g.P.Net.level g.P.Net.places) g.M.CoatMap.terms (Survey c.open.result))
 
-pub index-mut-requires : goal.index-mut-requires
-index-mut-requires g c =
+pub index_mut-requires : goal.index_mut-requires
+index_mut-requires g c =
     omega (arith, c.loop-call.invariant.1, c.loop-call.invariant.2, within _ c.loop-call.yielded _ c.loop-call.invariant.0 c.in-Some.call (into_iter_items c.next.new.self) c.in-Some.ensures.steps.0)
 
 pub overflow_add-at : goal.overflow_add-at
@@ -58,7 +58,7 @@ returns g c =
     let o : Recipe = record { plan = plan c.args.plan; map = terms c.args.map } in
     let l = c.loop-call in
     let all = all_came _ l.yielded _ l.invariant.0 _ c.in-None.ensures.steps.0 l.call-iterator.rest.ok.0 in
-    let calls : l.yielded ≡ vec_items c.args.calls = sym all ∙ c.into-iter-call-iterator.ensures.into-iter-gives.0 in
+    let calls : l.yielded ≡ vec_items c.args.calls = sym all ∙ c.into_iter-call-iterator.ensures.into_iter_gives.0 in
     let whole : take l.at (vec_items l.answers) ≡ vec_items l.answers = take_all l.at _ (omega (arith, l.invariant.1, l.invariant.2, ap length all, l.answers.ok.0)) in
     let life = c.open.ensures.life in
     let done = led_replayed plan terms o _ _ _ (l.invariant.3 o life.0 life.1) in
