@@ -1,6 +1,6 @@
 -- The audit's flags: place by place, and what they tell at the end of a depth.
 use Rattle.std.proofs.Common.{◌≡◌, ℕ, ◌+◌, ◌<◌, ◌≤◌, Bool, true, false, eqb, List, length, get_or, set, replicate, Some, None, Option, sym, ap, ◌∙◌, subst, ⊎_elim, arith, below_more}
-use Rattle.std.specs.List.{AllByRecursion as All}
+use Rattle.std.specs.List.{AllByRecursion}
 use Rattle.std.proofs.ByRecursion.{All-from_get_or}
 use Rattle.std.proofs.lemmas.List.{get_or-replicate, get_or_past, length-replicate, get_or-set_same, get_or-set_other}
 use Rattle.std.proofs.lemmas.Bool.{cases_lt, cases_eq, both_ways, eq-eqb, ne_eqb}
@@ -52,7 +52,7 @@ module _ (m d : ℕ) (ps : List Place) (n : ℕ) (seen : List Bool) (marks : Mar
         count_none (λ p. eqb (number m d p) k) (0, 0) ps
         (λ j h. ne_eqb _ _ (λ q. both_ways _ e (ap (λ i. get_or seen i false) (sym q) ∙ marks.marked j (omega arith))))
 
-    pub all_inside : All OnPanel ps
+    pub all_inside : AllByRecursion OnPanel ps
     all_inside = All-from_get_or OnPanel ps (0, 0) (λ j h. marks.inside j (omega arith))
 
     pub first_held : (count : ℕ) (r : Option ℕ) → First count (λ k. get_or seen k false ≡ true) (λ k. get_or seen k false ≡ false) r → First count (λ k. 1 ≤ held m d k ps) (λ k. held m d k ps ≡ 0) r

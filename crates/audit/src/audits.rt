@@ -1,6 +1,6 @@
 // The audit: a net is accepted, and any other list is refused.
 ghost use Rattle.std.specs.Prelude.{◌≡◌, ℕ, ◌+◌, ◌*◌, ◌^◌, ◌<◌, ◌≤◌, true, false, length, Ok, MatchOption, slice_index_or};
-ghost use Rattle.std.specs.List.{AllByRecursion as All};
+ghost use Rattle.std.specs.List.{AllByRecursion};
 ghost use Rattle.nets.specs.Places.{IsNet, OnPanel, number, held};
 ghost use Rattle.audit.specs.Audits.{NoLevel, First, Judged, Audited, AuditedBytes};
 
@@ -99,7 +99,7 @@ fn interval_of(m: u32, d: u32, x: u16, y: u16) -> usize
 fn first_empty<S: Source>(m: u32, d: u32, source: &S, seen: &mut [bool]) -> Option<u32>
     requires m_bound { (m ≤ 12) × (d ≤ m) }
     requires source_len { (length (S.Source.list source.now) ≡ 2 ^ m) × (length seen.old ≡ 2 ^ m) }
-    ensures inside { All OnPanel (S.Source.list source.now) }
+    ensures inside { AllByRecursion OnPanel (S.Source.list source.now) }
     ensures cases { First (2 ^ m) (λ k. 1 ≤ held m d k (S.Source.list source.now)) (λ k. held m d k (S.Source.list source.now) ≡ 0) result }
 {
     seen.fill(false);

@@ -1,6 +1,6 @@
 -- What boxes weigh, the coat that they give, and the sides of their terms.
 use Rattle.std.proofs.Common.{◌≡◌, ◌≤◌, Bool, true, false, cond, List, [], ◌∷◌, pos, nat_abs, sum_by, filter, refl, ◌∙◌, arith}
-use Rattle.std.specs.List.{AllByRecursion as All}
+use Rattle.std.specs.List.{AllByRecursion}
 use Rattle.std.proofs.ByRecursion.{All-weaker}
 use Rattle.std.proofs.lemmas.Int.{ints}
 use Rattle.std.proofs.lemmas.Bool.Decides.{nat_tests}
@@ -25,19 +25,19 @@ boxes_coat rows p = sum_of_joined box_terms (share p) rows ∙ sum_of_same _ _ (
 pub boxes_weight : (rows : List BoxRow) → weight (boxes_terms rows) ≡ sum_by (λ r. weight (box_terms r)) rows
 boxes_weight rows = sum_by_joined box_terms (λ (t : Term). nat_abs t.w) rows
 
-kept_one : (t : Term) (rest : List Term) (b : Bool) → (b ≡ true → Sides t) → All Sides rest → All Sides (cond b (t ∷ rest) rest)
+kept_one : (t : Term) (rest : List Term) (b : Bool) → (b ≡ true → Sides t) → AllByRecursion Sides rest → AllByRecursion Sides (cond b (t ∷ rest) rest)
 kept_one t rest true h hs = (h refl, hs)
 kept_one t rest false h hs = hs
 
-kept_sides : (ts : List Term) → All (λ t. (t.u ≤ 65536) × (t.v ≤ 65536)) ts → All Sides (filter has_sides ts)
+kept_sides : (ts : List Term) → AllByRecursion (λ t. (t.u ≤ 65536) × (t.v ≤ 65536)) ts → AllByRecursion Sides (filter has_sides ts)
 kept_sides [] h = tt
 kept_sides (t ∷ ts) (h, hs) = kept_one t _ (has_sides t) (λ e. grind (arith, nat_tests)) (kept_sides ts hs)
 
-row_sides : (r : BoxRow) → BoxBounds r → All Sides (box_terms r)
+row_sides : (r : BoxRow) → BoxBounds r → AllByRecursion Sides (box_terms r)
 row_sides r b = kept_sides (corners r) (omega arith)
 
-pub boxes_sides : (rows : List BoxRow) → All BoxBounds rows → All Sides (boxes_terms rows)
-boxes_sides rows h = all_joined box_terms Sides rows (All-weaker BoxBounds (λ r. All Sides (box_terms r)) row_sides rows h)
+pub boxes_sides : (rows : List BoxRow) → AllByRecursion BoxBounds rows → AllByRecursion Sides (boxes_terms rows)
+boxes_sides rows h = all_joined box_terms Sides rows (All-weaker BoxBounds (λ r. AllByRecursion Sides (box_terms r)) row_sides rows h)
 
 -- outside the box the corners cancel
 pub box_coat : (r : BoxRow) → BoxBounds r → (p : Place) → coat (box_terms r) p ≡ cond (inside r p) r.w (pos 0)

@@ -1,6 +1,6 @@
 -- The coat that cells give: the mixed differences from a cell on add up to its value.
 use Rattle.std.proofs.Common.{◌≡◌, ℕ, zero, suc, ◌+◌, ◌*◌, ◌/◌, ◌^◌, ◌<◌, ◌≤◌, Bool, true, false, cond, ◌&&◌, ltb, List, [], ◌∷◌, map, ℤ, pos, ◌-ℤ◌, nat_abs, sum, sym, refl, ap, ◌∙◌, ⊎_elim, arith}
-use Rattle.std.specs.List.{range_with_len, AllByRecursion as All}
+use Rattle.std.specs.List.{range_with_len, AllByRecursion}
 use Rattle.std.proofs.ByRecursion.{All-weaker}
 use Rattle.std.proofs.lemmas.Int.{ints}
 use Rattle.std.proofs.lemmas.List.Sums.{sum-map}
@@ -93,9 +93,9 @@ pub held_coat : (t : Table) (p : Place) → OnPanel p → coat (cells_terms (hel
 held_coat t (x, y) (hx, hy) = cells_coat (held t) (λ r. edge (ltb r 8) _) (λ s. refl) x y hx hy
 
 module _ (c : ℕ → ℕ → ℤ) where
-  row_sides : (r : ℕ) → r < 8 → All Sides (row_terms c r)
+  row_sides : (r : ℕ) → r < 8 → AllByRecursion Sides (row_terms c r)
   row_sides r h = omega arith
 
-  pub cells_sides : All Sides (cells_terms c)
+  pub cells_sides : AllByRecursion Sides (cells_terms c)
   unfolding cells_terms
-  cells_sides = all_joined (row_terms c) Sides (range_with_len 0 8) (All-weaker (λ r. r < 8) (λ r. All Sides (row_terms c r)) row_sides (range_with_len 0 8) (omega arith))
+  cells_sides = all_joined (row_terms c) Sides (range_with_len 0 8) (All-weaker (λ r. r < 8) (λ r. AllByRecursion Sides (row_terms c r)) row_sides (range_with_len 0 8) (omega arith))

@@ -1,7 +1,7 @@
 -- Sums of whole numbers over lists, and how large a coat can be.
 use Rattle.std.proofs.Common.{◌≡◌, ℕ, ◌+◌, ◌*◌, ◌<◌, ◌≤◌, Bool, true, false, cond, List, [], ◌∷◌, ◌++◌, map, length, get_or, take, ℤ, pos, ◌+ℤ◌, nat_abs, sum_by, refl, ap, ◌∙◌, arith}
 use borrow.Author.Differences.{up, down}
-use Rattle.std.specs.List.{flat_map, AllByRecursion as All}
+use Rattle.std.specs.List.{flat_map, AllByRecursion}
 use Rattle.std.specs.List.Sorted.{IsPermutation}
 use Rattle.std.proofs.ByRecursion.{All-append}
 use Rattle.std.proofs.lemmas.List.{take_more}
@@ -22,7 +22,7 @@ module _ {X : Type 0} (f : X → ℤ) where
   sum_of_more xs i d h = ap (sum_of f) (take_more xs i d h) ∙ sum_of_append (take i xs) (get_or xs i d ∷ []) ∙ omega (arith, ints)
 
   -- the sum of numbers that are at most n either way
-  pub sum_of_within : (n : ℕ) (xs : List X) → All (λ x. nat_abs (f x) ≤ n) xs → nat_abs (sum_of f xs) ≤ n * length xs
+  pub sum_of_within : (n : ℕ) (xs : List X) → AllByRecursion (λ x. nat_abs (f x) ≤ n) xs → nat_abs (sum_of f xs) ≤ n * length xs
   sum_of_within n [] h = omega arith
   sum_of_within n (x ∷ xs) (h, hs) = omega (arith, ints, sum_of_within n xs hs)
 
@@ -52,7 +52,7 @@ module _ {X Y : Type 0} (g : X → List Y) where
   sum_by_joined f [] = refl
   sum_by_joined f (x ∷ xs) = omega (arith, sum_by-append f (g x) (flat_map g xs), sum_by_joined f xs, sum_by-cons (λ x. sum_by f (g x)) x xs)
 
-  pub all_joined : (P : Y → Type 0) (xs : List X) → All (λ x. All P (g x)) xs → All P (flat_map g xs)
+  pub all_joined : (P : Y → Type 0) (xs : List X) → AllByRecursion (λ x. AllByRecursion P (g x)) xs → AllByRecursion P (flat_map g xs)
   all_joined P [] h = tt
   all_joined P (x ∷ xs) (h, hs) = All-append P (g x) (flat_map g xs) h (all_joined P xs hs)
 

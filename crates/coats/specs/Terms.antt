@@ -1,6 +1,6 @@
 -- What a map means: a list of terms, the coat that they give a place, and their weight.
 use Rattle.std.specs.Prelude.{ℕ, ◌+◌, ◌*◌, ◌≤◌, Bool, cond, ◌&&◌, List, [], ◌∷◌, ℤ, pos, ◌+ℤ◌, ◌*ℤ◌, sum_by, nat_lt, unsigned_abs}
-use Rattle.std.specs.List.{AllByRecursion as All}
+use Rattle.std.specs.List.{AllByRecursion}
 use Rattle.nets.specs.Places.{Place}
 use Rattle.coats.specs.declared.term.Term.{Term}
 
@@ -40,5 +40,5 @@ Sides t = Side t.u × Side t.v
 
 -- terms that are a map: sides from 1 to 65536, and W at most 16384
 pub record IsMap (ts : List Term) : Type 0 where
-  pub sides : All Sides ts
+  pub sides : AllByRecursion Sides ts
   pub light : weight ts ≤ 16384

@@ -1,6 +1,6 @@
 -- Sums and counts: n things in n classes.
 use Rattle.std.proofs.Common.{◌≡◌, ℕ, zero, suc, ◌+◌, ◌<◌, ◌≤◌, Bool, true, false, eqb, ltb, ◌⊎◌, List, [], ◌∷◌, length, get_or, sym, refl, ap, ◌∙◌, ⊎_elim, arith}
-use Rattle.std.specs.List.{AllByRecursion as All}
+use Rattle.std.specs.List.{AllByRecursion}
 use Rattle.std.proofs.lemmas.Bool.{cases_lt}
 use Rattle.std.proofs.lemmas.Bool.Decides.{nat_tests}
 use Rattle.nets.specs.Sums.{total, one_if, count}
@@ -24,7 +24,7 @@ total_class a (suc n) = let ih = total_class a n in grind (arith, nat_tests)
 
 -- things that each have a class below n: the classes' counts add up to all of them
 module _ {X : Type 0} (g : X → ℕ) (n : ℕ) where
-  pub spread : (xs : List X) → All (λ x. g x < n) xs → total n (λ k. count (λ x. eqb (g x) k) xs) ≡ length xs
+  pub spread : (xs : List X) → AllByRecursion (λ x. g x < n) xs → total n (λ k. count (λ x. eqb (g x) k) xs) ≡ length xs
   spread [] all = total_none n
   spread (x ∷ xs) (h, hs) =
       total_add n (λ k. one_if (eqb (g x) k)) (λ k. count (λ y. eqb (g y) k) xs)
@@ -79,6 +79,6 @@ module _ {X : Type 0} (p : X → Bool) (d : X) where
   lone_count (x ∷ xs) h (suc j) (suc k) l q a b = ap suc (lone_count xs (omega arith) j k (omega arith) (omega arith) a b)
 
 module _ {X : Type 0} (P : X → Type 0) (p q : X → Bool) (same : (x : X) → P x → p x ≡ q x) where
-  pub count_same : (xs : List X) → All P xs → count p xs ≡ count q xs
+  pub count_same : (xs : List X) → AllByRecursion P xs → count p xs ≡ count q xs
   count_same [] all = refl
   count_same (x ∷ xs) (h, hs) = omega (arith, ap one_if (same x h), count_same xs hs)

@@ -1,6 +1,6 @@
 -- Nets by their intervals' numbers, and nets whose places lie apart.
 use Rattle.std.proofs.Common.{◌≡◌, ℕ, ◌+◌, ◌-◌, ◌*◌, ◌/◌, ◌%◌, ◌^◌, ◌<◌, ◌≤◌, true, ◌&&◌, eqb, List, length, get_or, sym, refl, ap, ◌∙◌, ⊎_elim, div-add-mod', arith, pow_pos, pow-add}
-use Rattle.std.specs.List.{AllByRecursion as All}
+use Rattle.std.specs.List.{AllByRecursion}
 use Rattle.std.proofs.lemmas.Nat.{mul-add-lt, div-mul-add, mod-mul-add, mod_below, div_below, pow_below}
 use Rattle.std.proofs.ByRecursion.{All-get_or, All-weaker}
 use Rattle.std.proofs.lemmas.Bool.{eqb-true, eq-eqb, and_from, cases_order}
@@ -31,7 +31,7 @@ digits x y i j w hy hj e =
 pub told : (x y i j w : ℕ) → y < w → j < w → (eqb x i && eqb y j) ≡ eqb (x * w + y) (i * w + j)
 told x y i j w hy hj = let d = digits x y i j w hy hj in grind (arith, nat_tests)
 
-module _ (m d : ℕ) (ps : List Place) (hm : m ≤ 12) (hd : d ≤ m) (inside : All OnPanel ps) where
+module _ (m d : ℕ) (ps : List Place) (hm : m ≤ 12) (hd : d ≤ m) (inside : AllByRecursion OnPanel ps) where
   -- an interval's count, by its number
   pub by_number : (i j : ℕ) → j < 2 ^ (m - d) → count (lies m d i j) ps ≡ held m d (i * 2 ^ (m - d) + j) ps
   by_number i j hj =
@@ -50,7 +50,7 @@ pub record Shares (m d : ℕ) (p q : Place) : Type 0 where
 abbrev pub Apart : (m d : ℕ) → List Place → Type 0
 Apart m d ps = (j k : ℕ) → j < length ps → k < length ps → Shares m d (get_or ps j (0, 0)) (get_or ps k (0, 0)) → j ≡ k
 
-module _ (m : ℕ) (ps : List Place) (hm : m ≤ 12) (long : length ps ≡ 2 ^ m) (inside : All OnPanel ps) where
+module _ (m : ℕ) (ps : List Place) (hm : m ≤ 12) (long : length ps ≡ 2 ^ m) (inside : AllByRecursion OnPanel ps) where
   net_by_numbers : ((d : ℕ) → d ≤ m → (n : ℕ) → n < 2 ^ m → held m d n ps ≡ 1) → IsNet m ps
   net_by_numbers one =
       record {

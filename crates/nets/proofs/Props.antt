@@ -3,10 +3,10 @@ use Rattle.std.proofs.Common.{◌≡◌, ℕ, List, [], ◌∷◌, refl}
 use native.Mathlib.Bridge.{le_prop}
 use base.Stored.{coded_ℕ}
 use denote.Struct.Props.{≡_prop}
-use Rattle.std.specs.List.{AllByRecursion as All}
+use Rattle.std.specs.List.{AllByRecursion}
 use Rattle.nets.specs.Places.{Place, OnPanel, IsNet}
 
-inside_prop : (ps : List Place) → IsProp (All OnPanel ps)
+inside_prop : (ps : List Place) → IsProp (AllByRecursion OnPanel ps)
 inside_prop [] p q = refl
 inside_prop (_ ∷ ps) p q = λ i. ((le_prop p.0.0 q.0.0 i, le_prop p.0.1 q.0.1 i), inside_prop ps p.1 q.1 i)
 

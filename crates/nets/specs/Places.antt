@@ -1,7 +1,7 @@
 -- Places, elementary intervals, and (0,m,2)-nets in base two (Niederreiter, Random Number Generation
 -- and Quasi-Monte Carlo Methods).
 use Rattle.std.specs.Prelude.{◌≡◌, ℕ, ◌+◌, ◌-◌, ◌*◌, ◌/◌, ◌^◌, ◌<◌, ◌≤◌, Bool, ◌&&◌, List, length, ◌==◌, nat_eq}
-use Rattle.std.specs.List.{AllByRecursion as All}
+use Rattle.std.specs.List.{AllByRecursion}
 use Rattle.nets.specs.Sums.{count}
 
 -- a place (x, y); a coordinate, 0 to 65535, stands for itself / 65536
@@ -24,7 +24,7 @@ lies m d i j p = top d p.0 == i && top (m - d) p.1 == j
 pub record IsNet (m : ℕ) (ps : List Place) : Type 0 where
   pub level : m ≤ 12
   pub long : length ps ≡ 2 ^ m
-  pub inside : All OnPanel ps
+  pub inside : AllByRecursion OnPanel ps
   pub one : (d i j : ℕ) → d ≤ m → i < 2 ^ d → j < 2 ^ (m - d) → count (lies m d i j) ps ≡ 1
 
 -- the intervals of a depth are numbered, (i, j) by i * 2^(m - d) + j.

@@ -2,7 +2,7 @@
 -- that are not taken. Two sums near one integral are near each other.
 use Rattle.std.proofs.Common.{◌≡◌, ℕ, suc, ◌+◌, ◌-◌, ◌*◌, ◌^◌, ◌≤◌, Bool, true, false, cond, List, [], ◌∷◌, take, ℤ, pos, negsuc, ◌+ℤ◌, ◌-ℤ◌, ◌*ℤ◌, nat_abs, sum_by, sym, refl, ap, ◌∙◌, subst, add-mul, mul-le-mul_left, mul-add, arith}
 use borrow.Author.Differences.{up, down, sum_is_lem, product_is}
-use Rattle.std.specs.List.{AllByRecursion as All}
+use Rattle.std.specs.List.{AllByRecursion}
 use Rattle.std.proofs.lemmas.Int.{ints}
 use Rattle.std.proofs.lemmas.List.Sums.{sum_by-cons}
 use Rattle.nets.specs.Places.{Place, IsNet}
@@ -52,7 +52,7 @@ module _ (m n : ℕ) (ps : List Place) (net : IsNet m ps) (err : Term → ℕ) (
   abbrev cost : Term → ℕ
   cost t = (err t + (2 ^ m - n)) * nat_abs t.w
 
-  close : (ts : List Term) → All Sides ts → Close (2 ^ m) (sum_by cost ts * 2 ^ 32) (added ts (take n ps)) (integral ts)
+  close : (ts : List Term) → AllByRecursion Sides ts → Close (2 ^ m) (sum_by cost ts * 2 ^ 32) (added ts (take n ps)) (integral ts)
   close [] all = rw (added_none (take n ps)) (omega arith)
   close (t ∷ ts) (s, all) =
       let c : ℕ = count (boxed t.u t.v) (take n ps) in

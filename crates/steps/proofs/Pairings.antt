@@ -1,7 +1,7 @@
 -- What steps weigh, the coat that they give, and the sides of their terms.
 use Rattle.std.proofs.Common.{◌≡◌, ℕ, ◌+◌, ◌-◌, ◌*◌, ◌≤◌, Bool, true, false, cond, ◌&&◌, ltb, List, [], ◌∷◌, ◌++◌, map, length, ℤ, pos, ◌+ℤ◌, ◌*ℤ◌, nat_abs, vec_items, sum_by, sym, refl, ap, ◌∙◌, subst, ⊎_elim, add-mul, mul-add, arith}
 use lib.IntN.{zero-*ℤ, *ℤ-zero, *ℤ_comm}
-use Rattle.std.specs.List.{AllByRecursion as All}
+use Rattle.std.specs.List.{AllByRecursion}
 use Rattle.std.proofs.ByRecursion.{All-get_or, All-weaker, All-map}
 use Rattle.std.proofs.lemmas.List.{length-append, get_or_append_left, get_or-append_right, get_or-append-add}
 use Rattle.std.proofs.lemmas.List.Sums.{sum_by-cons, sum_by-append}
@@ -60,15 +60,15 @@ steps_weight (x ∷ xs) ys =
     sum_by-append (λ (t : Term). nat_abs t.w) (map (pairing x) ys) (steps_terms xs ys)
     ∙ (let one = one_weight x ys in let q = add-mul (size x) (sum_by size xs) (sum_by size ys) in let rest = steps_weight xs ys in rw (sum_by-cons size x xs) (omega arith))
 
-all_parts : (xs ys : List Step) → All StepBounds (xs ++ ys) → All StepBounds xs × All StepBounds ys
+all_parts : (xs ys : List Step) → AllByRecursion StepBounds (xs ++ ys) → AllByRecursion StepBounds xs × AllByRecursion StepBounds ys
 all_parts [] ys h = (tt, h)
 all_parts (x ∷ xs) ys (h, hs) = let p = all_parts xs ys hs in ((h, p.0), p.1)
 
-pub steps_sides : (xs ys : List Step) → All StepBounds (xs ++ ys) → All Sides (steps_terms xs ys)
+pub steps_sides : (xs ys : List Step) → AllByRecursion StepBounds (xs ++ ys) → AllByRecursion Sides (steps_terms xs ys)
 steps_sides xs ys h =
     let p = all_parts xs ys h in
-    let row : (a : Step) → StepBounds a → All Sides (map (pairing a) ys) = λ a k. All-map Sides (pairing a) ys (All-weaker StepBounds (λ b. Sides (pairing a b)) (λ b l. (k, l)) ys p.1) in
-    all_joined (λ a. map (pairing a) ys) Sides xs (All-weaker StepBounds (λ a. All Sides (map (pairing a) ys)) row xs p.0)
+    let row : (a : Step) → StepBounds a → AllByRecursion Sides (map (pairing a) ys) = λ a k. All-map Sides (pairing a) ys (All-weaker StepBounds (λ b. Sides (pairing a b)) (λ b l. (k, l)) ys p.1) in
+    all_joined (λ a. map (pairing a) ys) Sides xs (All-weaker StepBounds (λ a. AllByRecursion Sides (map (pairing a) ys)) row xs p.0)
 
 -- the first step out of its bounds, among those for x or after them
 module _ (xs ys : List Step) (i : ℕ) where
@@ -80,7 +80,7 @@ module _ (xs ys : List Step) (i : ℕ) where
         before = λ k d low h. subst StepBounds (sym (get_or_append_left xs ys d k (omega (arith, f.here)))) (f.before k d low h);
       }
 
-  pub out_for_y : All StepBounds xs → FirstOut StepBounds ys i → FirstOut StepBounds (xs ++ ys) (length xs + i)
+  pub out_for_y : AllByRecursion StepBounds xs → FirstOut StepBounds ys i → FirstOut StepBounds (xs ++ ys) (length xs + i)
   out_for_y all f =
       record {
         here = omega (arith, f.here, length-append xs ys);

@@ -1,6 +1,6 @@
 // Step maps.
 ghost use Rattle.std.specs.Prelude.{◌≡◌, ◌+◌, ◌≤◌, [], ◌++◌, length, ◌*ℤ◌, sum_by, MatchResult, unsigned_abs};
-ghost use Rattle.std.specs.List.{AllByRecursion as All};
+ghost use Rattle.std.specs.List.{AllByRecursion};
 ghost use Rattle.coats.specs.Terms.{sum_of, weight as weighed};
 ghost use Rattle.coats.specs.Refusals.{TooMany, OutOfBounds, map_told};
 ghost use Rattle.steps.specs.Replaced.{StepsReplaced};
@@ -83,7 +83,7 @@ fn check_few(x: &[Step], y: &[Step]) -> Result<(), MapFault>
 // 8 for the first step out of its bounds; those for y are numbered after those for x.
 fn check_bounds(x: &[Step], y: &[Step]) -> Result<(), MapFault>
     requires { (length x.now ≤ 16) × (length y.now ≤ 16) }
-    ensures { MatchResult result (λ _. All StepBounds (x.now ++ y.now)) (λ e. OutOfBounds StepBounds (x.now ++ y.now) (map_told e)) }
+    ensures { MatchResult result (λ _. AllByRecursion StepBounds (x.now ++ y.now)) (λ e. OutOfBounds StepBounds (x.now ++ y.now) (map_told e)) }
 {
     if let Some(row) = first_out(x) {
         return Err(MapFault::Row(row));

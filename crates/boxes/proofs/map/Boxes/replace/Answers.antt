@@ -1,5 +1,5 @@
 use Rattle.std.proofs.Common.{◌≡◌, List, length, vec_items, sym, ap, ◌∙◌, subst, arith, rules}
-use Rattle.std.specs.List.{AllByRecursion as All}
+use Rattle.std.specs.List.{AllByRecursion}
 use Rattle.coats.specs.Terms.{Sides, weight}
 use Rattle.boxes.specs.declared.row.BoxRow.{BoxRow}
 use Rattle.boxes.specs.Rows.{boxes_terms}
@@ -12,7 +12,7 @@ invariant_of-drop c =
     let w = c.in_ok-weight.ensures in
     record {
       few = omega (arith, ap length same, c.in_ok-check_few.ensures);
-      sides = ∣ subst (λ (rows : List BoxRow). All Sides (boxes_terms rows)) (sym same) (boxes_sides _ c.in_default.ensures) ∣₁;
+      sides = ∣ subst (λ (rows : List BoxRow). AllByRecursion Sides (boxes_terms rows)) (sym same) (boxes_sides _ c.in_default.ensures) ∣₁;
       weighs = w.0 ∙ c.weigh.ensures ∙ ap (λ (rows : List BoxRow). weight (boxes_terms rows)) (sym same);
       light = omega (arith, w);
     }

@@ -1,5 +1,5 @@
 use Rattle.std.proofs.Common.{◌≡◌, List, [], length, vec_items, sym, ap, subst, arith, rules}
-use Rattle.std.specs.List.{AllByRecursion as All}
+use Rattle.std.specs.List.{AllByRecursion}
 use Rattle.coats.specs.Terms.{Sides, weight}
 use Rattle.steps.specs.declared.row.Step.{Step}
 use Rattle.steps.specs.Rows.{steps_terms}
@@ -12,7 +12,7 @@ invariant_of-result c =
     let none = sym (ap (λ (xs : List Step). steps_terms xs (vec_items c.new-2.result)) x) in
     record {
       few = (omega (arith, ap length x), omega (arith, ap length y));
-      sides = ∣ subst (All Sides) none tt ∣₁;
+      sides = ∣ subst (AllByRecursion Sides) none tt ∣₁;
       weighs = ap weight none;
       light = omega arith;
     }

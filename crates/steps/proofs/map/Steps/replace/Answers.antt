@@ -1,5 +1,5 @@
 use Rattle.std.proofs.Common.{◌≡◌, List, length, vec_items, sym, ap, ◌∙◌, subst, arith, rules}
-use Rattle.std.specs.List.{AllByRecursion as All}
+use Rattle.std.specs.List.{AllByRecursion}
 use Rattle.coats.specs.Terms.{Sides, weight}
 use Rattle.steps.specs.declared.row.Step.{Step}
 use Rattle.steps.specs.Rows.{steps_terms}
@@ -15,7 +15,7 @@ invariant_of-drop c =
     let same = ap (λ (xs : List Step). steps_terms xs c.args.y.now) (sym x) ∙ ap (steps_terms (vec_items c.in_ok-x.x)) (sym y) in
     record {
       few = (omega (arith, ap length x, few), omega (arith, ap length y, few));
-      sides = ∣ subst (All Sides) same (steps_sides c.args.x.now c.args.y.now c.in_ok-check_bounds.ensures) ∣₁;
+      sides = ∣ subst (AllByRecursion Sides) same (steps_sides c.args.x.now c.args.y.now c.in_ok-check_bounds.ensures) ∣₁;
       weighs = w.0 ∙ c.weigh.ensures ∙ ap weight same;
       light = omega (arith, w);
     }
