@@ -1,5 +1,5 @@
 -- That a list is a net is a proposition, so that it can stand in a type's invariant.
-use Rattle.std.proofs.Common.{◌≡◌, ℕ, List, [], ◌∷◌, refl}
+use Rattle.std.proofs.Common.{ℕ, List, [], ◌∷◌, refl}
 use native.Mathlib.Bridge.{le_prop}
 use base.Stored.{coded_ℕ}
 use denote.Struct.Props.{≡_prop}
