@@ -65,8 +65,8 @@ fn examine<S: Source>(m: u32, source: &S) -> Result<u32, NotNet>
 
 // The same with a flag for each interval of a depth.
 fn examine_by<S: Source>(m: u32, source: &S, seen: &mut [bool]) -> Result<u32, NotNet>
-    requires m_bound { m ≤ 12 }
-    requires source_len { (length (S.Source.list source.now) ≡ 2 ^ m) × (length seen.old ≡ 2 ^ m) }
+    requires low { m ≤ 12 }
+    requires long { (length (S.Source.list source.now) ≡ 2 ^ m) × (length seen.old ≡ 2 ^ m) }
     ensures { Judged m (S.Source.list source.now) result }
 {
     for depth in 0..depths(m) {
@@ -97,8 +97,8 @@ fn interval_of(m: u32, d: u32, x: u16, y: u16) -> usize
 
 // The number of the first empty interval of depth d, by a flag for each interval.
 fn first_empty<S: Source>(m: u32, d: u32, source: &S, seen: &mut [bool]) -> Option<u32>
-    requires m_bound { (m ≤ 12) × (d ≤ m) }
-    requires source_len { (length (S.Source.list source.now) ≡ 2 ^ m) × (length seen.old ≡ 2 ^ m) }
+    requires low { (m ≤ 12) × (d ≤ m) }
+    requires long { (length (S.Source.list source.now) ≡ 2 ^ m) × (length seen.old ≡ 2 ^ m) }
     ensures inside { AllByRecursion OnPanel (S.Source.list source.now) }
     ensures cases { First (2 ^ m) (λ k. 1 ≤ held m d k (S.Source.list source.now)) (λ k. held m d k (S.Source.list source.now) ≡ 0) result }
 {

@@ -1,6 +1,5 @@
 // The checks of rows, in the order in which their faults are told.
-ghost use Rattle.std.specs.Prelude.{◌≡◌, ◌<◌, ◌≤◌, [], ◌∷◌, Decides, MatchResult};
-ghost use Rattle.std.specs.Option as options;
+ghost use Rattle.std.specs.Prelude.{◌≡◌, ◌<◌, ◌≤◌, [], ◌∷◌, Decides, MatchOption, MatchResult};
 ghost use Rattle.std.specs.List.{AllByRecursion};
 ghost use Rattle.nets.specs.Refusals.{refused};
 ghost use Rattle.coats.specs.Refusals.{FirstOut, map_told};
@@ -41,7 +40,7 @@ pub fn check_count(rows: usize, most: usize) -> Result<(), MapFault>
 
 // The number of the first row out of its bounds.
 pub fn first_out<R: Bounded>(rows: &[R]) -> Option<usize>
-    ensures { options.MatchOption result (AllByRecursion R.Bounded.bounds rows.now) (FirstOut R.Bounded.bounds rows.now) }
+    ensures { MatchOption result (AllByRecursion R.Bounded.bounds rows.now) (FirstOut R.Bounded.bounds rows.now) }
 {
     for (i, row) in rows.iter().enumerate() {
         if !row.in_bounds() {

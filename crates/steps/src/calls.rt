@@ -57,8 +57,8 @@ impl CoatMap for Steps {
 
 // The sum for x times the sum for y, which is a coat.
 fn added(x: &[Step], y: &[Step], place: Place) -> i32
-    requires x_len_bound { (length x.now ≤ 16) × (length y.now ≤ 16) }
-    requires y_bound { unsigned_abs (sum_of (rise place.0) x.now *ℤ sum_of (rise place.1) y.now) ≤ 16384 }
+    requires few { (length x.now ≤ 16) × (length y.now ≤ 16) }
+    requires light { unsigned_abs (sum_of (rise place.0) x.now *ℤ sum_of (rise place.1) y.now) ≤ 16384 }
     ensures { result ≡ sum_of (rise place.0) x.now *ℤ sum_of (rise place.1) y.now }
 {
     let (at_x, at_y) = place;

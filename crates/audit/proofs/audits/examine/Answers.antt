@@ -12,7 +12,7 @@ slice_bounds-flags-end g c = omega (arith, whole c.args.m c.requires.0, few c.ar
 
 pub examine_by-requires : goal.examine_by-requires
 examine_by-requires g c = record {
-  m_bound = c.requires.0;
-  source_len =
+  low = c.requires.0;
+  long =
       (c.requires.1, length-take-le (1 * 2 ^ c.args.m % 18446744073709551616 - 0) _ (omega (arith, whole c.args.m c.requires.0, few c.args.m c.requires.0)) ∙ omega (arith, whole c.args.m c.requires.0));
 }

@@ -22,8 +22,8 @@ returns-in-Some g c =
     record {
       d = c.loop-depth.depth;
       n = c.in-Some.interval;
-      level = c.requires.m_bound;
-      long = c.requires.source_len.0;
+      level = c.requires.low;
+      long = c.requires.long.0;
       first =
           record {
             depth = omega arith;
@@ -37,6 +37,6 @@ returns-in-Some g c =
 
 pub returns : goal.returns
 returns g c = record {
-  net = net_from_held c.args.m _ c.requires.m_bound c.requires.source_len.0 (c.loop-depth.invariant.0 (omega arith)) (λ d n hd hn. c.loop-depth.invariant.1 d n (omega arith) hn);
-  all = rw c.depths.ensures (intervals c.args.m c.requires.m_bound);
+  net = net_from_held c.args.m _ c.requires.low c.requires.long.0 (c.loop-depth.invariant.0 (omega arith)) (λ d n hd hn. c.loop-depth.invariant.1 d n (omega arith) hn);
+  all = rw c.depths.ensures (intervals c.args.m c.requires.low);
 }

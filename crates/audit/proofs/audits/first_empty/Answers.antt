@@ -12,10 +12,10 @@ pub loop-i-init : goal.loop-i-init
 loop-i-init g c = rw (c.fill.ensures.after (λ y e. e)) (marks_none _ _ _ _)
 
 pub at-x-requires : goal.at-x-requires
-at-x-requires g c = omega (arith, whole c.args.m c.requires.m_bound.0, c.requires.source_len.0)
+at-x-requires g c = omega (arith, whole c.args.m c.requires.low.0, c.requires.long.0)
 
 pub bounds-seen-interval_of : goal.bounds-seen-interval_of
-bounds-seen-interval_of g c = omega (arith, c.interval_of.ensures.bound, c.fill.ensures.len, c.requires.source_len.1)
+bounds-seen-interval_of g c = omega (arith, c.interval_of.ensures.bound, c.fill.ensures.len, c.requires.long.1)
 
 pub loop-i-preserved : goal.loop-i-preserved
 loop-i-preserved g c =
@@ -23,12 +23,12 @@ loop-i-preserved g c =
     marks_more _ _ _ _ _ c.loop-i.invariant _ c.at-x.result c.at-x.ensures seen.inside seen.value (bounds-seen-interval_of g c)
 
 pub first_clear-requires : goal.first_clear-requires
-first_clear-requires g c = omega (arith, few c.args.m c.requires.m_bound.0, c.fill.ensures.len, c.requires.source_len.1)
+first_clear-requires g c = omega (arith, few c.args.m c.requires.low.0, c.fill.ensures.len, c.requires.long.1)
 
 pub returns : goal.returns
 returns g c =
-    let all : c.loop-i.i ≡ length (g.S.Source.list c.args.source.now) = omega (arith, whole c.args.m c.requires.m_bound.0, c.requires.source_len.0) in
-    let flags : length c.loop-i.seen ≡ 2 ^ c.args.m = omega (arith, c.fill.ensures.len, c.requires.source_len.1) in
+    let all : c.loop-i.i ≡ length (g.S.Source.list c.args.source.now) = omega (arith, whole c.args.m c.requires.low.0, c.requires.long.0) in
+    let flags : length c.loop-i.seen ≡ 2 ^ c.args.m = omega (arith, c.fill.ensures.len, c.requires.long.1) in
     record {
       inside = all_inside _ _ _ _ _ c.loop-i.invariant all;
       cases =

@@ -8,7 +8,7 @@ pub added-requires : goal.added-requires
 added-requires c =
     let map = c.args.self.now in
     let p = c.args.place in
-    (record { x_len_bound = search rules; y_bound = rw (c.deref.ensures.value, c.deref-2.ensures.value) (subst (λ (z : ℤ). nat_abs z ≤ 16384) (steps_coat p.0 p.1 (vec_items map.y) (vec_items map.x)) (coat_of_light map p)) })
+    (record { few = search rules; light = rw (c.deref.ensures.value, c.deref-2.ensures.value) (subst (λ (z : ℤ). nat_abs z ≤ 16384) (steps_coat p.0 p.1 (vec_items map.y) (vec_items map.x)) (coat_of_light map p)) })
 
 pub returns : goal.returns
 returns c =
