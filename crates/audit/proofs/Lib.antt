@@ -1,4 +1,2 @@
 mod Flags
-mod Sizes
 mod Accepts
-mod Lists

@@ -25,6 +25,10 @@ pub record FirstEmpty (m : ℕ) (ps : List Place) (d n : ℕ) : Type 0 where
   pub smallest : (k : ℕ) → k < n → held m d k ps ≢ 0
   pub shallowest : (e k : ℕ) → e < d → k < 2 ^ m → held m e k ps ≢ 0
 
+-- the first empty interval of depth d, if there is one
+abbrev pub FirstEmptyAt : (m d : ℕ) → List Place → Option ℕ → Type 0
+FirstEmptyAt m d ps = First (2 ^ m) (λ k. 1 ≤ held m d k ps) (λ k. held m d k ps ≡ 0)
+
 -- refused with 12: the length is no level's
 pub record WrongLength (each n : ℕ) (t : Told) : Type 0 where
   pub never : NoLevel each n
@@ -58,5 +62,5 @@ abbrev pub RefusedBytes : List ℕ → Told → Type 0
 RefusedBytes bytes t = WrongLength 4 (length bytes) t ⊎ ((m : ℕ) × (length bytes ≡ 4 * 2 ^ m) × NoNet m (laid bytes) t)
 
 abbrev pub AuditedBytes : List ℕ → Result Accepted AuditFault → Type 0
-AuditedBytes bytes (Ok a) = (length bytes ≡ 4 * 2 ^ a.level) × Examined a.level (laid bytes) a.intervals
+AuditedBytes bytes (Ok a) = (length bytes ≡ 4 * 2 ^ a.level.m) × Examined a.level.m (laid bytes) a.intervals
 AuditedBytes bytes (Err e) = RefusedBytes bytes (audit_told e)

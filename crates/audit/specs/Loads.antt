@@ -10,9 +10,9 @@ use Rattle.audit.specs.Refusals.{load_told}
 
 -- n intervals were examined, and the list is the places that the bytes lay down
 pub record Holds (bytes : List ℕ) (n : ℕ) (list : PointList) : Type 0 where
-  pub long : length bytes ≡ 4 * 2 ^ list.level
+  pub long : length bytes ≡ 4 * 2 ^ list.level.m
   pub places : vec_items list.places ≡ laid bytes
-  pub examined : Examined list.level (laid bytes) n
+  pub examined : Examined list.level.m (laid bytes) n
 
 -- want of memory, which is told of nets alone
 pub record NoMemory (bytes : List ℕ) (t : Told) : Type 0 where

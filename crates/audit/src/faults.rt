@@ -7,25 +7,26 @@ use std::alloc::AllocError;
 
 // 13: the list is no net. This is the smallest depth that has an empty interval, and the smallest
 // empty one there.
-#[derive(Clone, Copy)]
+#[derive(Clone, Copy, Debug, PartialEq, Eq)]
 pub struct NotNet {
     pub depth: u32,
     pub interval: u32,
 }
 
-#[derive(Clone, Copy)]
+#[derive(Clone, Copy, Debug, PartialEq, Eq)]
 pub enum AuditFault {
     // 12: no level's list has this length, in places or in bytes as the list was given.
     Length(usize),
     Empty(NotNet),
 }
 
-#[derive(Clone, Copy)]
+#[derive(Clone, Copy, Debug, PartialEq, Eq)]
 pub enum LoadFault {
     Audit(AuditFault),
     Memory,
 }
 
+// Written by hand, since a derived conversion has no contract.
 impl From<NotNet> for AuditFault {
     ghost from_gives = { λ e r. r ≡ of_audit.Empty e };
 

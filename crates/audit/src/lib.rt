@@ -2,8 +2,8 @@
 #![tactic(auto)]
 
 pub mod audits;
+mod examination;
 pub mod faults;
-pub mod loads;
 pub mod points;
 mod sources;
 

@@ -13,15 +13,11 @@ pub(crate) trait Source {
         ensures { result ≡ slice_index_or (list self.now) i (0, 0) };
 }
 
-// Places in a slice.
-#[derive(Drop)]
-pub(crate) struct Listed<'a>(pub(crate) &'a [Place]);
-
-impl Source for Listed<'_> {
-    ghost list = { λ s. s.0.now };
+impl Source for &[Place] {
+    ghost list = { λ places. places.now };
 
     fn at(&self, i: u32) -> Place {
-        self.0[i as usize]
+        self[i as usize]
     }
 }
 

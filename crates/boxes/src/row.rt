@@ -9,7 +9,7 @@ use coats::{Bounded, Term, is_bound};
 use nets::Place;
 
 // The weight w on the places with x0 <= x < x1 and y0 <= y < y1.
-#[derive(Clone, Copy)]
+#[derive(Clone, Copy, Debug, PartialEq, Eq)]
 pub struct BoxRow {
     pub x0: u32,
     pub x1: u32,
@@ -33,27 +33,12 @@ impl BoxRow {
         ensures small { (i : ℕ) (d : Term) → i < 4 → unsigned_abs (slice_index_or result i d).w ≤ 32768 }
     {
         let w = i32::from(self.w);
+        let corner = |w, u, v| Term { w, u, v };
         [
-            Term {
-                w,
-                u: self.x1,
-                v: self.y1,
-            },
-            Term {
-                w: -w,
-                u: self.x0,
-                v: self.y1,
-            },
-            Term {
-                w: -w,
-                u: self.x1,
-                v: self.y0,
-            },
-            Term {
-                w,
-                u: self.x0,
-                v: self.y0,
-            },
+            corner(w, self.x1, self.y1),
+            corner(-w, self.x0, self.y1),
+            corner(-w, self.x1, self.y0),
+            corner(w, self.x0, self.y0),
         ]
     }
 
@@ -61,6 +46,7 @@ impl BoxRow {
         ensures value { result ≡ coated (corners_of self) place }
         ensures bound { unsigned_abs result ≤ 131072 }
     {
+        // A loop: a chain's signed sum leaves its bound open, and a function for all would require it.
         let mut sum = 0;
         for corner in &self.corners() {
             sum += corner.share(place);
@@ -72,6 +58,7 @@ impl BoxRow {
         ensures value { result ≡ weighed (box_terms self) }
         ensures bound { result ≤ 131072 }
     {
+        // Each by name: neither a chain's sum nor its bound proved.
         let [a, b, c, d] = self.corners();
         size(a) + size(b) + size(c) + size(d)
     }

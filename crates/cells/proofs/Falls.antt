@@ -1,14 +1,14 @@
 -- The coat that cells give: the mixed differences from a cell on add up to its value.
 use Rattle.std.proofs.Common.{◌≡◌, ℕ, zero, suc, ◌+◌, ◌*◌, ◌/◌, ◌^◌, ◌<◌, ◌≤◌, Bool, true, false, cond, ◌&&◌, ltb, List, [], ◌∷◌, map, ℤ, pos, ◌-ℤ◌, nat_abs, sum, sym, refl, ap, ◌∙◌, ⊎_elim, arith}
-use Rattle.std.specs.List.{range_with_len, AllByRecursion}
-use Rattle.std.proofs.ByRecursion.{All-weaker}
+use Rattle.std.specs.List.{range_with_len, All}
+use Rattle.std.proofs.lemmas.List.Elements.{All-from_recursion, All-weaker}
 use Rattle.std.proofs.lemmas.Int.{ints}
 use Rattle.std.proofs.lemmas.List.Sums.{sum-map}
 use Rattle.std.proofs.lemmas.Bool.{cases_lt}
 use Rattle.std.proofs.lemmas.Bool.Decides.{nat_tests}
 use Rattle.nets.specs.Places.{Place, OnPanel}
 use Rattle.coats.specs.declared.term.Term.{Term}
-use Rattle.coats.specs.Terms.{sum_of, share, coat, weight, Sides}
+use Rattle.coats.specs.Terms.{sum_of, share, coat, weight, Sides, IsMap}
 use Rattle.coats.proofs.Sums.{sum_of_same, sum_of_map, sum_of_joined, sum_by_joined, all_joined}
 use Rattle.cells.specs.declared.table.Table.{Table}
 use Rattle.cells.specs.Cells.{cell_term, row_terms, cells_terms}
@@ -93,9 +93,20 @@ pub held_coat : (t : Table) (p : Place) → OnPanel p → coat (cells_terms (hel
 held_coat t (x, y) (hx, hy) = cells_coat (held t) (λ r. edge (ltb r 8) _) (λ s. refl) x y hx hy
 
 module _ (c : ℕ → ℕ → ℤ) where
-  row_sides : (r : ℕ) → r < 8 → AllByRecursion Sides (row_terms c r)
-  row_sides r h = omega arith
+  row_sides : (r : ℕ) → r < 8 → All Sides (row_terms c r)
+  row_sides r h = All-from_recursion Sides (row_terms c r) (omega arith)
 
-  pub cells_sides : AllByRecursion Sides (cells_terms c)
+  cells_sides : All Sides (cells_terms c)
   unfolding cells_terms
-  cells_sides = all_joined (row_terms c) Sides (range_with_len 0 8) (All-weaker (λ r. r < 8) (λ r. AllByRecursion Sides (row_terms c r)) row_sides (range_with_len 0 8) (omega arith))
+  cells_sides =
+      let small = All-from_recursion (λ r. r < 8) (range_with_len 0 8) (omega arith) in
+      all_joined (row_terms c) Sides (range_with_len 0 8) (All-weaker (λ r. r < 8) (λ r. All Sides (row_terms c r)) row_sides (range_with_len 0 8) small)
+
+  -- cells are a map if they are light enough
+  pub cells_map : weight (cells_terms c) ≤ 16384 → IsMap (cells_terms c)
+  cells_map light = record { sides = cells_sides; light = light }
+
+  -- cells of 0 weigh nothing
+  pub no_weight : ((r s : ℕ) → c r s ≡ pos 0) → weight (cells_terms c) ≡ 0
+  unfolding cells_terms
+  no_weight e = ap (λ (f : ℕ → ℕ → ℤ). weight (cells_terms f)) (λ i r s. e r s i)

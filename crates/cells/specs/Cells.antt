@@ -1,12 +1,12 @@
 -- Cells: 8 by 8 values, and the terms that they mean.
-use Rattle.std.specs.Prelude.{ℕ, ◌+◌, ◌*◌, cond, ◌&&◌, List, [], map, ℤ, pos, ◌+ℤ◌, ◌-ℤ◌, nat_lt, slice_index_or}
+use Rattle.std.specs.Prelude.{ℕ, ◌+◌, ◌*◌, if◌then◌else◌, ◌&&◌, List, [], map, ℤ, pos, ◌+ℤ◌, ◌-ℤ◌, nat_lt, slice_index_or}
 use Rattle.std.specs.List.{range_with_len, flat_map}
 use Rattle.coats.specs.declared.term.Term.{Term}
 use Rattle.coats.specs.Terms.{term}
 
 -- the value of row r and column s, and 0 for an index of 8 or more
 abbrev pub cell : List (List ℤ) → ℕ → ℕ → ℤ
-cell rows r s = cond (nat_lt r 8 && nat_lt s 8) (slice_index_or (slice_index_or rows r []) s (pos 0)) (pos 0)
+cell rows r s = if nat_lt r 8 && nat_lt s 8 then slice_index_or (slice_index_or rows r []) s (pos 0) else pos 0
 
 -- how the value at (r, s) differs from its neighbours above in r and in s
 abbrev pub mixed : (ℕ → ℕ → ℤ) → ℕ → ℕ → ℤ

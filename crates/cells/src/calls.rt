@@ -20,7 +20,7 @@ impl Cells {
         ensures { (a b : ℕ) → held result.table a b ≡ pos 0 }
     {
         Cells {
-            table: Table::zero(),
+            table: Table::default(),
             weight: 0,
         }
     }
@@ -29,7 +29,7 @@ impl Cells {
     pub fn replace(&mut self, values: &[[i16; 8]; 8]) -> Result<(), MapFault>
         ensures { CellsReplaced values.now self.old self.new result }
     {
-        let table = Table::of(values);
+        let table = Table::from(values);
         let weight = check_weight(table.weight())?;
         *self = Cells { table, weight };
         Ok(())
@@ -39,6 +39,7 @@ impl Cells {
 impl CoatMap for Cells {
     ghost terms = { λ m. cells_terms (held m.table) };
 
+    #[tactic(auto, using(crate::proofs::Falls::cells_map))]
     fn show_map(&self) {}
 
     fn weight(&self) -> u32 {
@@ -61,26 +62,25 @@ impl Table {
     }
 
     // How much lower the next row is.
-    fn fall(&self, r: usize, s: usize) -> i32
-        requires { r ≤ 8 }
+    fn fall(&self, r: u8, s: usize) -> i32
         ensures value { result ≡ held self.now r s -ℤ held self.now (r + 1) s }
         ensures bound { unsigned_abs result ≤ 65536 }
     {
+        let r = r as usize;
         self.at(r, s) - self.at(r + 1, s)
     }
 
     // The weight of the term at (r, s).
-    fn mixed(&self, r: usize, s: usize) -> i32
-        requires { (r ≤ 8) × (s ≤ 8) }
+    fn mixed(&self, r: u8, s: u8) -> i32
         ensures value { result ≡ mixed (held self.now) r s }
         ensures bound { unsigned_abs result ≤ 131072 }
     {
+        let s = s as usize;
         self.fall(r, s) - self.fall(r, s + 1)
     }
 
     // What that term weighs.
-    fn size(&self, r: usize, s: usize) -> u64
-        requires { (r ≤ 8) × (s ≤ 8) }
+    fn size(&self, r: u8, s: u8) -> u64
         ensures value { result ≡ unsigned_abs (mixed (held self.now) r s) }
         ensures bound { result ≤ 131072 }
     {
@@ -88,11 +88,11 @@ impl Table {
     }
 
     // What the terms of row r weigh.
-    fn row_weight(&self, r: usize) -> u64
-        requires { r ≤ 8 }
+    fn row_weight(&self, r: u8) -> u64
         ensures value { result ≡ weighed (row_terms (held self.now) r) }
         ensures bound { result ≤ 1048576 }
     {
+        // A loop: with a chain over the range, neither the sum nor its bound proved.
         let mut sum = 0;
         for s in 0..8 {
             sum += self.size(r, s);
@@ -103,6 +103,7 @@ impl Table {
     fn weight(&self) -> u64
         ensures { result ≡ weighed (cells_terms (held self.now)) }
     {
+        // A loop, for the same reason.
         let mut sum = 0;
         for r in 0..8 {
             sum += self.row_weight(r);

@@ -1,3 +1,3 @@
 pub mod Products
-pub mod Props
 pub mod Sums
+mod Firsts

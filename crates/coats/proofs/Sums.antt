@@ -1,9 +1,9 @@
 -- Sums of whole numbers over lists, and how large a coat can be.
 use Rattle.std.proofs.Common.{◌≡◌, ℕ, ◌+◌, ◌*◌, ◌<◌, ◌≤◌, Bool, true, false, cond, List, [], ◌∷◌, ◌++◌, map, length, get_or, take, ℤ, pos, ◌+ℤ◌, nat_abs, sum_by, refl, ap, ◌∙◌, arith}
 use borrow.Author.Differences.{up, down}
-use Rattle.std.specs.List.{flat_map, AllByRecursion}
+use Rattle.std.specs.List.{flat_map, All}
 use Rattle.std.specs.List.Sorted.{IsPermutation}
-use Rattle.std.proofs.ByRecursion.{All-append}
+use Rattle.std.proofs.lemmas.List.Elements.{All-nil, All-head, All-tail, All-append}
 use Rattle.std.proofs.lemmas.List.{take_more}
 use Rattle.std.proofs.lemmas.Int.{ints}
 use Rattle.std.proofs.lemmas.List.Sorted.{sum_by-IsPermutation}
@@ -22,9 +22,9 @@ module _ {X : Type 0} (f : X → ℤ) where
   sum_of_more xs i d h = ap (sum_of f) (take_more xs i d h) ∙ sum_of_append (take i xs) (get_or xs i d ∷ []) ∙ omega (arith, ints)
 
   -- the sum of numbers that are at most n either way
-  pub sum_of_within : (n : ℕ) (xs : List X) → AllByRecursion (λ x. nat_abs (f x) ≤ n) xs → nat_abs (sum_of f xs) ≤ n * length xs
+  pub sum_of_within : (n : ℕ) (xs : List X) → All (λ x. nat_abs (f x) ≤ n) xs → nat_abs (sum_of f xs) ≤ n * length xs
   sum_of_within n [] h = omega arith
-  sum_of_within n (x ∷ xs) (h, hs) = omega (arith, ints, sum_of_within n xs hs)
+  sum_of_within n (x ∷ xs) h = omega (arith, ints, All-head (λ x. nat_abs (f x) ≤ n) x xs h, sum_of_within n xs (All-tail (λ x. nat_abs (f x) ≤ n) x xs h))
 
   -- the sum of what is added, less the sum of what is taken away
   parts : (xs : List X) → sum_of f xs +ℤ pos (sum_by (λ x. down (f x)) xs) ≡ pos (sum_by (λ x. up (f x)) xs)
@@ -52,9 +52,9 @@ module _ {X Y : Type 0} (g : X → List Y) where
   sum_by_joined f [] = refl
   sum_by_joined f (x ∷ xs) = omega (arith, sum_by-append f (g x) (flat_map g xs), sum_by_joined f xs, sum_by-cons (λ x. sum_by f (g x)) x xs)
 
-  pub all_joined : (P : Y → Type 0) (xs : List X) → AllByRecursion (λ x. AllByRecursion P (g x)) xs → AllByRecursion P (flat_map g xs)
-  all_joined P [] h = tt
-  all_joined P (x ∷ xs) (h, hs) = All-append P (g x) (flat_map g xs) h (all_joined P xs hs)
+  pub all_joined : (P : Y → Type 0) (xs : List X) → All (λ x. All P (g x)) xs → All P (flat_map g xs)
+  all_joined P [] h = All-nil P
+  all_joined P (x ∷ xs) h = All-append P (g x) (flat_map g xs) (All-head (λ x. All P (g x)) x xs h) (all_joined P xs (All-tail (λ x. All P (g x)) x xs h))
 
 kept_small : (b : Bool) (w : ℤ) → nat_abs (cond b w (pos 0)) ≤ nat_abs w
 kept_small true w = omega arith

@@ -1,6 +1,6 @@
 -- What the refusals of rows tell, and when each is told.
-use Rattle.std.specs.Prelude.{◌≡◌, ℕ, ◌<◌, ◌≤◌, ◌⊎◌, List, [], ◌∷◌, length}
-use Rattle.std.specs.List.{HoldsAt, AllWithin, AllByRecursion}
+use Rattle.std.specs.Prelude.{◌≡◌, ℕ, ◌<◌, ◌≤◌, ◌⊎◌, List, [], ◌∷◌, length, All}
+use Rattle.std.specs.List.{HoldsAt, AllWithin}
 use Rattle.nets.specs.Refusals.{Told, refused, no_memory}
 use Rattle.coats.specs.declared.term.Term.{Term}
 use Rattle.coats.specs.Terms.{weight}
@@ -23,7 +23,7 @@ pub record FirstOut {R : Type 0} (Bounds : R → Type 0) (rows : List R) (i : �
 -- rows that a map may have: not too many, each within its bounds, and W at most 16384
 pub record Good {R : Type 0} (Few : Type 0) (Bounds : R → Type 0) (rows : List R) (ts : List Term) : Type 0 where
   pub few : Few
-  pub bounds : AllByRecursion Bounds rows
+  pub bounds : All Bounds rows
   pub light : weight ts ≤ 16384
 
 pub record TooMany (Few : Type 0) (t : Told) : Type 0 where
@@ -44,5 +44,5 @@ abbrev pub Refusal : {R : Type 0} (Few : Type 0) (Bounds : R → Type 0) (rows :
 Refusal Few Bounds rows ts t =
     TooMany Few t
     ⊎ (Few × OutOfBounds Bounds rows t)
-    ⊎ (Few × AllByRecursion Bounds rows × TooHeavy ts t)
+    ⊎ (Few × All Bounds rows × TooHeavy ts t)
     ⊎ (Good Few Bounds rows ts × (t ≡ no_memory))

@@ -1,6 +1,5 @@
 -- What a map means: a list of terms, the coat that they give a place, and their weight.
-use Rattle.std.specs.Prelude.{ℕ, ◌*◌, ◌≤◌, Bool, cond, ◌&&◌, List, [], ◌∷◌, ℤ, pos, ◌+ℤ◌, ◌*ℤ◌, sum_by, nat_lt, unsigned_abs}
-use Rattle.std.specs.List.{AllByRecursion}
+use Rattle.std.specs.Prelude.{ℕ, ◌*◌, ◌≤◌, Bool, if◌then◌else◌, ◌&&◌, List, [], ◌∷◌, All, ℤ, pos, ◌+ℤ◌, ◌*ℤ◌, sum_by, nat_lt, unsigned_abs}
 use Rattle.nets.specs.Places.{Place}
 use Rattle.coats.specs.declared.term.Term.{Term}
 
@@ -18,7 +17,7 @@ boxed u v p = nat_lt p.0 u && nat_lt p.1 v
 
 -- what a term adds at a place
 abbrev pub share : Place → Term → ℤ
-share p t = cond (boxed t.u t.v p) t.w (pos 0)
+share p t = if boxed t.u t.v p then t.w else pos 0
 
 -- the coat at a place: w added over the terms in whose box it lies
 abbrev pub coat : List Term → Place → ℤ
@@ -40,5 +39,5 @@ Sides t = Side t.u × Side t.v
 
 -- terms that are a map: sides from 1 to 65536, and W at most 16384
 pub record IsMap (ts : List Term) : Type 0 where
-  pub sides : AllByRecursion Sides ts
+  pub sides : All Sides ts
   pub light : weight ts ≤ 16384

@@ -1,6 +1,5 @@
 // The checks of rows, in the order in which their faults are told.
-ghost use Rattle.std.specs.Prelude.{◌≡◌, ◌<◌, ◌≤◌, [], ◌∷◌, Decides, MatchOption, MatchResult};
-ghost use Rattle.std.specs.List.{AllByRecursion};
+ghost use Rattle.std.specs.Prelude.{◌≡◌, ◌<◌, ◌≤◌, ◌↔◌, [], ◌∷◌, All, IsTrue, MatchOption, MatchResult};
 ghost use Rattle.nets.specs.Refusals.{refused};
 ghost use Rattle.coats.specs.Refusals.{FirstOut, map_told};
 
@@ -14,7 +13,7 @@ const END: u32 = 65536;
 
 // Whether a number can bound a coordinate from above.
 pub fn is_bound(n: u32) -> bool
-    ensures { Decides result (n ≤ 65536) }
+    ensures { IsTrue result ↔ (n ≤ 65536) }
 {
     n <= END
 }
@@ -24,7 +23,7 @@ pub trait Bounded {
     ghost bounds: { Self → Type 0 };
 
     fn in_bounds(&self) -> bool
-        ensures { Decides result (bounds self.now) };
+        ensures { IsTrue result ↔ bounds self.now };
 }
 
 // 7 if there are more rows than the most.
@@ -39,15 +38,11 @@ pub fn check_count(rows: usize, most: usize) -> Result<(), MapFault>
 }
 
 // The number of the first row out of its bounds.
+#[tactic(auto, using(crate::proofs::Firsts::firsts))]
 pub fn first_out<R: Bounded>(rows: &[R]) -> Option<usize>
-    ensures { MatchOption result (AllByRecursion R.Bounded.bounds rows.now) (FirstOut R.Bounded.bounds rows.now) }
+    ensures { MatchOption result (All R.bounds rows.now) (FirstOut R.bounds rows.now) }
 {
-    for (i, row) in rows.iter().enumerate() {
-        if !row.in_bounds() {
-            return Some(i);
-        }
-    }
-    None
+    rows.iter().position(|row| !row.in_bounds())
 }
 
 // 9 if the weight is over the heaviest.

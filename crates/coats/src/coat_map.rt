@@ -13,7 +13,7 @@ pub trait CoatMap {
     fn show_map(&self)
         ensures { IsMap (terms self.now) };
 
-    // W.
+    // W. A number and not a type of its own, since it is added and multiplied wherever it is used.
     fn weight(&self) -> u32
         ensures value { result ≡ weighed (terms self.now) }
         ensures bound { result ≤ 16384 };

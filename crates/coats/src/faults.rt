@@ -4,7 +4,7 @@ ghost use Rattle.coats.specs.declared.faults.MapFault.TheVariants as of_map;
 
 use std::alloc::AllocError;
 
-#[derive(Clone, Copy)]
+#[derive(Clone, Copy, Debug, PartialEq, Eq)]
 pub enum MapFault {
     // 7: there are more rows than the kind allows.
     Count,
@@ -15,6 +15,7 @@ pub enum MapFault {
     Memory,
 }
 
+// Written by hand, since a derived conversion has no contract.
 impl From<AllocError> for MapFault {
     ghost from_gives = { λ _ r. r ≡ of_map.Memory };
 

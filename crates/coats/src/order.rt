@@ -7,5 +7,5 @@ use crate::coat_map::CoatMap;
 // Two maps whose terms are the same up to order have the same coat everywhere, the same weight and
 // the same integral. It does nothing when it is run.
 pub fn show_same<A: CoatMap, B: CoatMap>(a: &A, b: &B)
-    ensures { IsPermutation (A.CoatMap.terms a.now) (B.CoatMap.terms b.now) → Same (A.CoatMap.terms a.now) (B.CoatMap.terms b.now) }
+    ensures { IsPermutation (A.terms a.now) (B.terms b.now) → Same (A.terms a.now) (B.terms b.now) }
 {}

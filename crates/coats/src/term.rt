@@ -5,7 +5,7 @@ ghost use Rattle.coats.specs.Terms.{share as share_at};
 use nets::Place;
 
 // The weight w on the places with x < u and y < v.
-#[derive(Clone, Copy)]
+#[derive(Clone, Copy, Debug, PartialEq, Eq)]
 pub struct Term {
     pub w: i32,
     pub u: u32,

@@ -6,37 +6,27 @@ use coats::{CoatMap, MapFault};
 use nets::Place;
 use std::alloc::Global;
 use std::process::Abort;
+use std::test::Fail;
 
-// 0 for rows that are accepted, or the refusal's number and place; 1 for want of memory.
-pub(crate) fn told(answer: Result<(), MapFault>) -> (u32, usize) {
-    match answer {
-        Ok(()) => (0, 0),
-        Err(MapFault::Count) => (7, 0),
-        Err(MapFault::Row(row)) => (8, row),
-        Err(MapFault::Weight) => (9, 0),
-        Err(MapFault::Memory) => (1, 0),
-    }
-}
+// What a call answered, and then a weight and a coat.
+pub(crate) type Outcome = (Result<(), MapFault>, u32, i32);
 
 const fn row(x0: u32, x1: u32, y0: u32, y1: u32, w: i16) -> BoxRow {
     BoxRow { x0, x1, y0, y1, w }
 }
 
 // What becomes of a map of one box, which weighs 28 and has the coat 7 at one place only, when its rows
-// are to be replaced: what is told, and then the weight and the coat at a place.
-fn outcome(heap: Global, rows: &[BoxRow], place: Place) -> (u32, usize, u32, i32) {
+// are to be replaced: the answer, and then the weight and the coat at a place. Steps have their own,
+// since each kind of map is made in its own way.
+fn outcome(heap: Global, rows: &[BoxRow], place: Place) -> Result<Outcome, MapFault> {
     let mut map = Boxes::new(heap);
-    let (first, _) = told(map.replace(heap, &[row(9, 10, 9, 10, 7)]));
-    let (number, value) = told(map.replace(heap, rows));
-    if first == 0 {
-        (number, value, map.weight(), map.coat(place))
-    } else {
-        (first, 0, 0, 0)
-    }
+    map.replace(heap, &[row(9, 10, 9, 10, 7)])?;
+    let answer = map.replace(heap, rows);
+    Ok((answer, map.weight(), map.coat(place)))
 }
 
 #[test]
-fn boxes(rt: HostRuntime) {
+fn boxes(rt: HostRuntime) -> Result<(), Fail> {
     let heap = rt.alloc();
     let empty = Boxes::new(heap);
     assert_eq!(rt; (empty.weight(), empty.coat((0, 0))), (0, 0));
@@ -60,16 +50,17 @@ fn boxes(rt: HostRuntime) {
         (&inner[..], (65535, 65535), 25, -9),
         (&[], (9, 9), 0, 0),
     ] {
-        assert_eq!(rt; outcome(heap, rows, place), (0, 0, weight, coat));
+        assert_eq!(rt; outcome(heap, rows, place)?, (Ok(()), weight, coat));
     }
+    Ok(())
 }
 
 // Bounds at their edges. A refused row leaves the map as it is.
 #[test]
-fn box_bounds(rt: HostRuntime) {
+fn box_bounds(rt: HostRuntime) -> Result<(), Fail> {
     let heap = rt.alloc();
     let good = row(65535, 65536, 65535, 65536, 8);
-    assert_eq!(rt; outcome(heap, &[good], (65535, 65535)), (0, 0, 32, 8));
+    assert_eq!(rt; outcome(heap, &[good], (65535, 65535))?, (Ok(()), 32, 8));
     for bad in [
         row(5, 5, 0, 1, 1),
         row(6, 5, 0, 1, 1),
@@ -80,17 +71,21 @@ fn box_bounds(rt: HostRuntime) {
         row(0, 1, 0, 4294967295, 1),
         row(65536, 65536, 0, 1, 1),
     ] {
-        assert_eq!(rt; outcome(heap, &[bad], (9, 9)), (8, 0, 28, 7));
         assert_eq!(rt;
-            outcome(heap, &[good, good, bad, bad], (9, 9)),
-            (8, 2, 28, 7)
+            outcome(heap, &[bad], (9, 9))?,
+            (Err(MapFault::Row(0)), 28, 7)
+        );
+        assert_eq!(rt;
+            outcome(heap, &[good, good, bad, bad], (9, 9))?,
+            (Err(MapFault::Row(2)), 28, 7)
         );
     }
+    Ok(())
 }
 
 // The count is told before a row, and a row before the weight.
 #[test]
-fn refused_boxes(rt: HostRuntime) {
+fn refused_boxes(rt: HostRuntime) -> Result<(), Fail> {
     let heap = rt.alloc();
     let light = [row(0, 10, 0, 10, 1); 33];
     let mut heavy = light;
@@ -99,32 +94,34 @@ fn refused_boxes(rt: HostRuntime) {
     bad[31] = row(0, 0, 0, 1, 32767);
     let inner = [row(1, 2, 1, 2, -32768); 32];
     for (rows, expected) in [
-        (&light[..], (7, 0, 28, 7)),
-        (&bad[..], (7, 0, 28, 7)),
-        (&bad[0..32], (8, 31, 28, 7)),
-        (&heavy[0..32], (9, 0, 28, 7)),
-        (&inner[..], (9, 0, 28, 7)),
-        (&light[0..32], (0, 0, 32, 32)),
+        (&light[..], (Err(MapFault::Count), 28, 7)),
+        (&bad[..], (Err(MapFault::Count), 28, 7)),
+        (&bad[0..32], (Err(MapFault::Row(31)), 28, 7)),
+        (&heavy[0..32], (Err(MapFault::Weight), 28, 7)),
+        (&inner[..], (Err(MapFault::Weight), 28, 7)),
+        (&light[0..32], (Ok(()), 32, 32)),
     ] {
-        assert_eq!(rt; outcome(heap, rows, (9, 9)), expected);
+        assert_eq!(rt; outcome(heap, rows, (9, 9))?, expected);
     }
+    Ok(())
 }
 
 // The weight at its edge, by one corner and by four.
 #[test]
-fn heaviest_boxes(rt: HostRuntime) {
+fn heaviest_boxes(rt: HostRuntime) -> Result<(), Fail> {
     let heap = rt.alloc();
     let whole = row(0, 65536, 0, 65536, -16384);
     let inner = row(9, 10, 9, 10, 4096);
     let more = row(0, 65536, 0, 65536, 1);
     for (rows, expected) in [
-        ([whole, row(0, 1, 0, 1, 0)], (0, 0, 16384, -16384)),
-        ([whole, more], (9, 0, 28, 7)),
-        ([inner, row(0, 1, 0, 1, 0)], (0, 0, 16384, 4096)),
-        ([more, inner], (9, 0, 28, 7)),
+        ([whole, row(0, 1, 0, 1, 0)], (Ok(()), 16384, -16384)),
+        ([whole, more], (Err(MapFault::Weight), 28, 7)),
+        ([inner, row(0, 1, 0, 1, 0)], (Ok(()), 16384, 4096)),
+        ([more, inner], (Err(MapFault::Weight), 28, 7)),
     ] {
-        assert_eq!(rt; outcome(heap, &rows, (9, 9)), expected);
+        assert_eq!(rt; outcome(heap, &rows, (9, 9))?, expected);
     }
+    Ok(())
 }
 
 // What a corner (u, v) adds to the coat of the place (x, y).
@@ -193,7 +190,7 @@ impl Dice {
 }
 
 fn clipped(n: u32) -> u16 {
-    if n < 65536 { n as u16 } else { 65535 }
+    u16::try_from(n).unwrap_or(u16::MAX)
 }
 
 fn near(n: u32) -> [u16; 3] {
@@ -226,7 +223,7 @@ fn compare(rt: &impl Abort, map: &Boxes, rows: &[BoxRow]) {
 }
 
 #[test]
-fn random_boxes(rt: HostRuntime) {
+fn random_boxes(rt: HostRuntime) -> Result<(), Fail> {
     let mut dice = Dice { state: 2026 };
     let mut map = Boxes::new(rt.alloc());
     for _ in 0..16 {
@@ -238,7 +235,8 @@ fn random_boxes(rt: HostRuntime) {
             dice.row(),
             dice.row(),
         ];
-        assert_eq!(rt; told(map.replace(rt.alloc(), &rows)), (0, 0));
+        map.replace(rt.alloc(), &rows)?;
         compare(&rt, &map, &rows);
     }
+    Ok(())
 }

@@ -10,8 +10,6 @@ mod cell_maps;
 #[cfg(test)]
 mod layers_on_plans;
 #[cfg(test)]
-mod makes;
-#[cfg(test)]
 mod outside;
 #[cfg(test)]
 mod points;

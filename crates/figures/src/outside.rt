@@ -1,6 +1,6 @@
 // The Sobol points against numbers from elsewhere.
-use crate::makes::sobol;
 use nets::Net;
+use sequences::Sobol;
 use std::test::Fail;
 
 // The first 64 points of the two-dimensional Sobol sequence in 64ths, as SciPy 1.10.1
@@ -75,12 +75,11 @@ const GRAY_ORDER: [(u16, u16); 64] = [
 
 #[test]
 fn first_sobol_points(rt: HostRuntime) -> Result<(), Fail> {
-    let plan = sobol(6)?;
-    for (i, (x, y)) in GRAY_ORDER.iter().enumerate() {
-        let i = i as u32;
-        let place = plan.place(i ^ i / 2).ok().ok_or("no place")?;
-        assert_eq!(rt; u32::from(place.0), u32::from(*x) * 1024);
-        assert_eq!(rt; u32::from(place.1), u32::from(*y) * 1024);
+    let plan = Sobol::new(6)?;
+    for (i, (x, y)) in (0..64).zip(&GRAY_ORDER) {
+        let (place_x, place_y) = plan.place(i ^ i / 2)?;
+        assert_eq!(rt; u32::from(place_x), u32::from(*x) * 1024);
+        assert_eq!(rt; u32::from(place_y), u32::from(*y) * 1024);
     }
     Ok(())
 }

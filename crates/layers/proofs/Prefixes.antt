@@ -1,5 +1,5 @@
 -- Maps of a coordinate under which two coordinates whose images agree in their top bits agree in theirs.
-use Rattle.std.proofs.Common.{◌≡◌, ℕ, zero, suc, ◌+◌, ◌-◌, ◌*◌, ◌/◌, ◌%◌, ◌^◌, ◌<◌, ◌≤◌, sym, refl, ap, ◌∙◌, subst, ⊎_elim, add-zero, arith}
+use Rattle.std.proofs.Common.{◌≡◌, ℕ, zero, suc, ◌+◌, ◌-◌, ◌*◌, ◌/◌, ◌%◌, ◌^◌, ◌<◌, ◌≤◌, sym, refl, ap, ◌∙◌, ⊎_elim, add-zero, arith}
 use lib.Bits.{bit_xor, xor_assoc, xor_self, xor_zero_r, xor_lt, xor_shr, xor_block}
 use lib.Pow.{split}
 use Rattle.std.proofs.lemmas.Bool.{cases_lt}
@@ -8,16 +8,12 @@ use Rattle.nets.specs.Digits.{digit, word}
 use Rattle.nets.proofs.Intervals.{top_below}
 use Rattle.nets.proofs.Words.{Bits, word_same, word_below, word_xor, digit_below, top_fewer, top_digits, top_word}
 use Rattle.layers.specs.Layers.{flip, scrambled_bit, scrambled}
-use Rattle.layers.specs.Steps.{masked}
 
 xor_cancel : (a b m : ℕ) → bit_xor a m ≡ bit_xor b m → a ≡ b
-xor_cancel a b m e = sym (back a) ∙ ap (λ z. bit_xor z m) e ∙ back b
-  where
-    back : (c : ℕ) → bit_xor (bit_xor c m) m ≡ c
-    back c = xor_assoc c m m ∙ ap (bit_xor c) (xor_self m) ∙ xor_zero_r c
+xor_cancel a b m e = simp (xor_assoc, xor_self, xor_zero_r) at (ap (λ z. bit_xor z m) e)
 
 fewer : (k d x y : ℕ) → k ≤ d → d ≤ 16 → top d x ≡ top d y → top k x ≡ top k y
-fewer k d x y hk hd e = top_fewer k d x hk hd ∙ ap (λ z. z / 2 ^ (d - k)) e ∙ sym (top_fewer k d y hk hd)
+fewer k d x y hk hd e = cc (top_fewer k d x hk hd, top_fewer k d y hk hd)
 
 -- a map of coordinates: images that agree in their top d bits are of coordinates that do
 pub record Keeps (f : ℕ → ℕ) : Type 0 where
@@ -35,8 +31,7 @@ module _ (mask : ℕ → ℕ) (nested : Nested mask) where
   flipped (suc d) x y hd hx hy e =
       let above = flipped d x y (omega arith) hx hy (fewer d (suc d) _ _ (omega arith) hd e) in
       let same = nested d x y (omega arith) above in
-      let split = λ (z : ℕ). xor_shr z (mask z) (16 - suc d) in
-      xor_cancel (top (suc d) x) (top (suc d) y) (top (suc d) (mask y)) (ap (bit_xor (top (suc d) x)) (sym same) ∙ sym (split x) ∙ e ∙ split y)
+      xor_cancel (top (suc d) x) (top (suc d) y) (top (suc d) (mask y)) (cc (same, xor_shr x (mask x) (16 - suc d), xor_shr y (mask y) (16 - suc d)))
 
   mask_keeps : ((x : ℕ) → mask x < 2 ^ 16) → Keeps (λ x. bit_xor x (mask x))
   mask_keeps small = record { below = λ x h. xor_lt 16 x (mask x) h (small x); tops = flipped }
@@ -45,7 +40,7 @@ pub shift_keeps : (s : ℕ) → s < 2 ^ 16 → Keeps (λ x. bit_xor x s)
 shift_keeps s h = mask_keeps (λ _. s) (λ d x y hd e. refl) (λ _. h)
 
 module _ (w : ℕ) where
-  flip_bits : (x n : ℕ) → Bits n (flip w x)
+  pub flip_bits : (x n : ℕ) → Bits n (flip w x)
   flip_bits x n k _ = digit_below w (2 ^ k + top k x)
 
   abbrev flips : ℕ → ℕ
@@ -62,27 +57,25 @@ module _ (w : ℕ) where
       (λ (h : 5 ≤ d). ap (λ z. top (suc d) (z * 2 ^ 10)) (word_same 6 (flip w x) (flip w y) (λ k l. same k (omega arith))))
       (cases_lt d 5)
 
-  masked_keeps : Keeps (masked w)
+  abbrev masked : ℕ → ℕ
+  masked x = bit_xor x (flips x)
+
+  masked_keeps : Keeps masked
   masked_keeps = mask_keeps flips flips_nested (λ x. omega (arith, word_below 6 (flip w x) (flip_bits x 6)))
 
   -- one XOR scrambles the six bits and keeps the lower ten
-  pub masked_is : (x : ℕ) → x < 2 ^ 16 → masked w x ≡ scrambled w x
+  pub masked_is : (x : ℕ) → x < 2 ^ 16 → masked x ≡ scrambled w x
   masked_is x h =
       let bits : Bits 6 (λ k. digit x (15 - k)) = λ k _. digit_below x (15 - k) in
-      let low : x % 2 ^ 10 < 2 ^ 10 = omega arith in
-      let top : bit_xor (top 6 x) (word 6 (flip w x)) ≡ word 6 (scrambled_bit w x) =
+      let six : bit_xor (top 6 x) (word 6 (flip w x)) ≡ word 6 (scrambled_bit w x) =
       ap (λ z. bit_xor z (word 6 (flip w x))) (top_digits 6 x (omega arith) h) ∙ word_xor 6 (λ k. digit x (15 - k)) (flip w x) bits (flip_bits x 6)
       in
-      ap (λ z. bit_xor z (flips x)) (sym (split x 10))
-      ∙ ap (bit_xor (x / 2 ^ 10 * 2 ^ 10 + x % 2 ^ 10)) (sym (add-zero (flips x)))
-      ∙ xor_block 10 (x / 2 ^ 10) (word 6 (flip w x)) (x % 2 ^ 10) 0 low (omega arith)
-      ∙ ap (λ z. z * 2 ^ 10 + bit_xor (x % 2 ^ 10) 0) top
-      ∙ ap (λ z. word 6 (scrambled_bit w x) * 2 ^ 10 + z) (xor_zero_r (x % 2 ^ 10))
+      (simp (split, add-zero, xor_zero_r) at (xor_block 10 (x / 2 ^ 10) (word 6 (flip w x)) (x % 2 ^ 10) 0 (omega arith) (omega arith)))
+      ∙ ap (λ z. z * 2 ^ 10 + x % 2 ^ 10) six
 
   pub scramble_keeps : Keeps (scrambled w)
   scramble_keeps =
-      let is = masked_is in
       record {
-        below = λ x h. subst (λ z. z < 2 ^ 16) (is x h) (masked_keeps.below x h);
-        tops = λ d x y hd hx hy e. masked_keeps.tops d x y hd hx hy (ap (top d) (is x hx) ∙ e ∙ ap (top d) (sym (is y hy)));
+        below = λ x h. rw (masked_is x h) at (masked_keeps.below x h);
+        tops = λ d x y hd hx hy e. masked_keeps.tops d x y hd hx hy (rw (masked_is x hx, masked_is y hy) e);
       }

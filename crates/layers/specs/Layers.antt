@@ -1,7 +1,11 @@
 -- What each layer makes of a place.
-use Rattle.std.specs.Prelude.{ℕ, ◌+◌, ◌-◌, ◌*◌, ◌%◌, ◌^◌, bit_xor}
-use Rattle.nets.specs.Places.{Place, top}
+use Rattle.std.specs.Prelude.{ℕ, ◌+◌, ◌-◌, ◌*◌, ◌%◌, ◌^◌, bit_xor, List, map}
+use Rattle.nets.specs.Places.{Place, top, IsNet}
 use Rattle.nets.specs.Digits.{digit, word}
+
+-- under this map of places a net stays a net, of the same level
+abbrev pub KeepsNets : (Place → Place) → Type 0
+KeepsNets f = (m : ℕ) (ps : List Place) → IsNet m ps → IsNet m (map f ps)
 
 -- digital shift by (s, t)
 abbrev pub shifted : (s t : ℕ) → Place → Place

@@ -2,11 +2,13 @@
 #![tactic(auto)]
 
 pub mod choice;
+pub mod layer;
 pub mod scramble;
 pub mod shift;
 pub mod swap;
 
 pub use choice::MaybeSwap;
-pub use scramble::Scramble;
-pub use shift::Shift;
-pub use swap::Swap;
+pub use layer::{Layer, Layered};
+pub use scramble::{Scramble, ScrambleLayer};
+pub use shift::{Shift, ShiftLayer};
+pub use swap::{Swap, SwapLayer};

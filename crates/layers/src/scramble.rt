@@ -1,34 +1,35 @@
 // Nested scramble (Owen 1995), six levels deep.
-ghost use Rattle.std.specs.Prelude.{◌≡◌, ◌+◌, ◌*◌, ◌^◌, ◌<◌, map};
+ghost use Rattle.std.specs.Prelude.{◌≡◌, ◌+◌, ◌*◌, ◌^◌, ◌<◌};
 ghost use Rattle.nets.specs.Places.{top};
 ghost use Rattle.nets.specs.Digits.{word as word_of};
-ghost use Rattle.layers.specs.Layers.{flip, scrambled_place};
-ghost use Rattle.layers.specs.Steps.{masked};
+ghost use Rattle.layers.specs.Layers.{flip, scrambled, scrambled_place};
 
-use nets::{Net, Place, PlaceFault, digit_of, top_bits};
+use crate::layer::{Layer, Layered};
+use nets::{Place, digit_of, top_bits};
 
 // Each coordinate scrambled by its own word.
-#[derive(Drop)]
-pub struct Scramble<P> {
-    plan: P,
+#[derive(Clone, Copy, Debug, PartialEq, Eq)]
+pub struct ScrambleLayer {
     x_word: u64,
     y_word: u64,
 }
 
-impl<P> Scramble<P> {
-    pub fn new(plan: P, x_word: u64, y_word: u64) -> Self
-        ensures { (result.plan ≡ plan) × (result.x_word ≡ x_word) × (result.y_word ≡ y_word) }
-    {
-        Scramble {
-            plan,
-            x_word,
-            y_word,
-        }
-    }
+pub type Scramble<P> = Layered<P, ScrambleLayer>;
 
-    fn scramble(&self, place: Place) -> Place
-        ensures { result ≡ (masked self.now.x_word place.0, masked self.now.y_word place.1) }
+impl<P> Layered<P, ScrambleLayer> {
+    pub fn new(plan: P, x_word: u64, y_word: u64) -> Self
+        ensures { (result.plan ≡ plan) × (result.layer.x_word ≡ x_word) × (result.layer.y_word ≡ y_word) }
     {
+        Layered::on(plan, ScrambleLayer { x_word, y_word })
+    }
+}
+
+impl Layer for ScrambleLayer {
+    ghost moved = { λ l. scrambled_place l.x_word l.y_word };
+
+    fn show_keeps(&self) {}
+
+    fn moved(&self, place: Place) -> Place {
         let (x, y) = place;
         (scrambled_by(self.x_word, x), scrambled_by(self.y_word, y))
     }
@@ -36,9 +37,16 @@ impl<P> Scramble<P> {
 
 // A coordinate with each of its top six bits flipped whose node's digit in the word is 1.
 fn scrambled_by(word: u64, x: u16) -> u16
-    ensures { result ≡ masked word x }
+    ensures { result ≡ scrambled word x }
 {
-    x ^ top_six(flips(word, x))
+    x ^ mask(word, x)
+}
+
+// The flips of x as the top six bits of a coordinate.
+fn mask(word: u64, x: u16) -> u16
+    ensures { result ≡ word_of 6 (flip word x) * 2 ^ 10 }
+{
+    flips(word, x) << 10
 }
 
 // The digits of the word at the nodes above the top six bits of x.
@@ -46,11 +54,10 @@ fn flips(word: u64, x: u16) -> u16
     ensures value { result ≡ word_of 6 (flip word x) }
     ensures bound { result < 2 ^ 6 }
 {
-    let mut flips = 0;
-    for k in 0..6 {
-        flips = 2 * flips + digit_of(word, node_above(x, k)) as u16;
-    }
-    flips
+    (0..6).fold(
+        0,
+        |flips, k| (flips << 1) + digit_of(word, node_above(x, k)) as u16,
+    )
 }
 
 // The number of the node above bit k of x.
@@ -59,32 +66,4 @@ fn node_above(x: u16, k: u32) -> u32
     ensures { result ≡ 2 ^ k + top k x }
 {
     (1 << k) + top_bits(k, x)
-}
-
-// Six digits as the top bits of a coordinate.
-fn top_six(digits: u16) -> u16
-    requires { digits < 2 ^ 6 }
-    ensures { result ≡ digits * 2 ^ 10 }
-{
-    digits << 10
-}
-
-impl<P: Net> Net for Scramble<P> {
-    ghost level = { λ l. P.Net.level l.plan };
-
-    ghost places = { λ l. map (scrambled_place l.x_word l.y_word) (P.Net.places l.plan) };
-
-    fn show_net(&self) {
-        self.plan.show_net();
-    }
-
-    fn level(&self) -> u32 {
-        self.plan.level()
-    }
-
-    fn place(&self, i: u32) -> Result<Place, PlaceFault> {
-        self.plan.show_net();
-        let place = self.plan.place(i)?;
-        Ok(self.scramble(place))
-    }
 }

@@ -1,50 +1,37 @@
 // The layer that shifts each place digitally.
-ghost use Rattle.std.specs.Prelude.{◌≡◌, ◌^◌, ◌<◌, map};
+ghost use Rattle.std.specs.Prelude.{◌≡◌, ◌^◌, ◌<◌};
 ghost use Rattle.layers.specs.Layers.{shifted};
 
-use nets::{Net, Place, PlaceFault};
+use crate::layer::{Layer, Layered};
+use nets::Place;
 
-// Each x XOR s, and each y XOR t.
-#[derive(Drop)]
-pub struct Shift<P> {
-    plan: P,
+// Each x XOR s, and each y XOR t. Their bounds are said, since a field that a function does not read
+// could be any number to its proof.
+#[derive(Clone, Copy, Debug, PartialEq, Eq)]
+pub struct ShiftLayer {
     s: u16,
     t: u16,
     ghost s_fits: { s < 2 ^ 16 },
     ghost t_fits: { t < 2 ^ 16 },
 }
 
-impl<P> Shift<P> {
-    pub fn new(plan: P, s: u16, t: u16) -> Self
-        ensures { (result.plan ≡ plan) × (result.s ≡ s) × (result.t ≡ t) }
-    {
-        Shift { plan, s, t }
-    }
+pub type Shift<P> = Layered<P, ShiftLayer>;
 
-    fn shift(&self, place: Place) -> Place
-        ensures { result ≡ shifted self.now.s self.now.t place }
+impl<P> Layered<P, ShiftLayer> {
+    pub fn new(plan: P, s: u16, t: u16) -> Self
+        ensures { (result.plan ≡ plan) × (result.layer.s ≡ s) × (result.layer.t ≡ t) }
     {
-        let (x, y) = place;
-        (x ^ self.s, y ^ self.t)
+        Layered::on(plan, ShiftLayer { s, t })
     }
 }
 
-impl<P: Net> Net for Shift<P> {
-    ghost level = { λ l. P.Net.level l.plan };
+impl Layer for ShiftLayer {
+    ghost moved = { λ l. shifted l.s l.t };
 
-    ghost places = { λ l. map (shifted l.s l.t) (P.Net.places l.plan) };
+    fn show_keeps(&self) {}
 
-    fn show_net(&self) {
-        self.plan.show_net();
-    }
-
-    fn level(&self) -> u32 {
-        self.plan.level()
-    }
-
-    fn place(&self, i: u32) -> Result<Place, PlaceFault> {
-        self.plan.show_net();
-        let place = self.plan.place(i)?;
-        Ok(self.shift(place))
+    fn moved(&self, place: Place) -> Place {
+        let (x, y) = place;
+        (x ^ self.s, y ^ self.t)
     }
 }

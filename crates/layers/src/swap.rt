@@ -1,45 +1,30 @@
 // The layer that exchanges x and y.
-ghost use Rattle.std.specs.Prelude.{◌≡◌, map};
+ghost use Rattle.std.specs.Prelude.{◌≡◌};
 ghost use Rattle.layers.specs.Layers.{swapped};
 
-use nets::{Net, Place, PlaceFault};
+use crate::layer::{Layer, Layered};
+use nets::Place;
 
-#[derive(Drop)]
-pub struct Swap<P> {
-    plan: P,
-}
+#[derive(Clone, Copy, Debug, PartialEq, Eq)]
+pub struct SwapLayer;
 
-impl<P> Swap<P> {
+pub type Swap<P> = Layered<P, SwapLayer>;
+
+impl<P> Layered<P, SwapLayer> {
     pub fn new(plan: P) -> Self
         ensures { result.plan ≡ plan }
     {
-        Swap { plan }
-    }
-
-    fn swap(&self, place: Place) -> Place
-        ensures { result ≡ swapped place }
-    {
-        let (x, y) = place;
-        (y, x)
+        Layered::on(plan, SwapLayer)
     }
 }
 
-impl<P: Net> Net for Swap<P> {
-    ghost level = { λ l. P.Net.level l.plan };
+impl Layer for SwapLayer {
+    ghost moved = { λ _. swapped };
 
-    ghost places = { λ l. map swapped (P.Net.places l.plan) };
+    fn show_keeps(&self) {}
 
-    fn show_net(&self) {
-        self.plan.show_net();
-    }
-
-    fn level(&self) -> u32 {
-        self.plan.level()
-    }
-
-    fn place(&self, i: u32) -> Result<Place, PlaceFault> {
-        self.plan.show_net();
-        let place = self.plan.place(i)?;
-        Ok(self.swap(place))
+    fn moved(&self, place: Place) -> Place {
+        let (x, y) = place;
+        (y, x)
     }
 }

@@ -7,13 +7,14 @@ use coats::CoatMap;
 use nets::Place;
 use steps::Steps;
 
-#[derive(Drop)]
+#[derive(Debug, Drop)]
 pub enum Map {
     Boxes(Boxes),
     Steps(Steps),
     Cells(Cells),
 }
 
+// A match in each call, since no function may make a dyn value and hand it out.
 impl CoatMap for Map {
     ghost terms = { terms_of };
 

@@ -9,18 +9,13 @@ use std::fmt;
 // The bytes of the longest list, of level 12.
 pub const LONGEST: usize = 16384;
 
-#[derive(Drop)]
+// No `Result`, since a refusal is an answer too, and the type prints itself.
+#[derive(Clone, Copy, Debug, PartialEq, Eq)]
 pub enum Verdict {
     // A net, with how many intervals were examined.
-    Net {
-        places: u32,
-        level: u32,
-        intervals: u32,
-    },
-    // 12: no level's list has so many bytes.
-    NoLevel(usize),
-    // 13: not a net.
-    Empty(NotNet),
+    Net(Accepted),
+    // 12 or 13: what the audit refuses.
+    Refused(AuditFault),
     // 12: more bytes than the longest list has. Nobody knows how many.
     TooLong,
 }
@@ -32,36 +27,27 @@ pub fn vet(bytes: &[u8]) -> Verdict
         return Verdict::TooLong;
     }
     match audit_bytes(bytes) {
-        Ok(Accepted { level, intervals }) => {
-            let places = 1 << level;
-            Verdict::Net {
-                places,
-                level,
-                intervals,
-            }
-        }
-        Err(AuditFault::Length(size)) => Verdict::NoLevel(size),
-        Err(AuditFault::Empty(fault)) => Verdict::Empty(fault),
+        Ok(net) => Verdict::Net(net),
+        Err(fault) => Verdict::Refused(fault),
     }
 }
 
+// Written by hand, since the text is proved.
 impl fmt::Display for Verdict {
     ghost output = { λ v. Some (text v) };
 
     fn fmt<W: fmt::Write>(&self, f: &mut fmt::Formatter<W>) -> fmt::Result {
         match self {
-            Verdict::Net {
-                places,
-                level,
-                intervals,
-            } => {
+            Verdict::Net(Accepted { level, intervals }) => {
+                let places = level.places();
+                let level = level.get();
                 write!(
                     f,
                     "places {places}\nlevel {level}\nintervals {intervals}\nnet"
                 )
             }
-            Verdict::NoLevel(size) => write!(f, "refused 12 place {size}"),
-            Verdict::Empty(NotNet { depth, interval }) => {
+            Verdict::Refused(AuditFault::Length(size)) => write!(f, "refused 12 place {size}"),
+            Verdict::Refused(AuditFault::Empty(NotNet { depth, interval })) => {
                 write!(f, "refused 13 depth {depth} interval {interval}")
             }
             Verdict::TooLong => write!(f, "refused 12 more than {LONGEST} bytes"),

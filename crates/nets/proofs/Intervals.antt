@@ -1,11 +1,11 @@
 -- Nets by their intervals' numbers, and nets whose places lie apart.
-use Rattle.std.proofs.Common.{◌≡◌, ℕ, ◌+◌, ◌-◌, ◌*◌, ◌/◌, ◌%◌, ◌^◌, ◌<◌, ◌≤◌, true, ◌&&◌, eqb, List, length, get_or, sym, refl, ap, ◌∙◌, ⊎_elim, div-add-mod', arith, pow_pos, pow-add}
-use Rattle.std.specs.List.{AllByRecursion}
+use Rattle.std.proofs.Common.{◌≡◌, ℕ, ◌+◌, ◌-◌, ◌*◌, ◌/◌, ◌%◌, ◌^◌, ◌<◌, ◌≤◌, true, ◌&&◌, eqb, List, length, get_or, count_by, sym, refl, ap, ◌∙◌, ⊎_elim, div-add-mod', arith, pow_pos, pow-add}
+use Rattle.std.specs.List.{All}
 use Rattle.std.proofs.lemmas.Nat.{mul-add-lt, div-mul-add, mod-mul-add, mod_below, div_below, pow_below}
-use Rattle.std.proofs.ByRecursion.{All-get_or, All-weaker}
+use Rattle.std.proofs.lemmas.List.Elements.{All-get_or, All-weaker}
 use Rattle.std.proofs.lemmas.Bool.{eqb-true, eq-eqb, and_from, cases_order}
 use Rattle.std.proofs.lemmas.Bool.Decides.{nat_tests}
-use Rattle.nets.specs.Sums.{total, count}
+use Rattle.nets.specs.Sums.{total}
 use Rattle.nets.specs.Places.{Place, OnPanel, top, lies, IsNet, number, held}
 use Rattle.nets.proofs.Counts.{spread, total_ones, total_squeeze, count_lone, lone_count, count_same}
 
@@ -31,14 +31,16 @@ digits x y i j w hy hj e =
 pub told : (x y i j w : ℕ) → y < w → j < w → (eqb x i && eqb y j) ≡ eqb (x * w + y) (i * w + j)
 told x y i j w hy hj = let d = digits x y i j w hy hj in grind (arith, nat_tests)
 
-module _ (m d : ℕ) (ps : List Place) (hm : m ≤ 12) (hd : d ≤ m) (inside : AllByRecursion OnPanel ps) where
+module _ (m d : ℕ) (ps : List Place) (hm : m ≤ 12) (hd : d ≤ m) (inside : All OnPanel ps) where
   -- an interval's count, by its number
-  pub by_number : (i j : ℕ) → j < 2 ^ (m - d) → count (lies m d i j) ps ≡ held m d (i * 2 ^ (m - d) + j) ps
+  pub by_number : (i j : ℕ) → j < 2 ^ (m - d) → count_by (lies m d i j) ps ≡ held m d (i * 2 ^ (m - d) + j) ps
+  unfolding held
   by_number i j hj =
       count_same OnPanel (lies m d i j) (λ p. eqb (number m d p) (i * 2 ^ (m - d) + j))
       (λ p h. told (top d p.0) (top (m - d) p.1) i j (2 ^ (m - d)) (top_below (m - d) p.1 (omega arith) h.1) hj) ps inside
 
   pub all_numbers : length ps ≡ 2 ^ m → total (2 ^ m) (λ n. held m d n ps) ≡ 2 ^ m
+  unfolding held
   all_numbers long = spread (number m d) (2 ^ m) ps (All-weaker OnPanel (λ p. number m d p < 2 ^ m) (λ p h. number_below m d p hm hd h) ps inside) ∙ long
 
 -- two places in one interval of depth d
@@ -50,7 +52,7 @@ pub record Shares (m d : ℕ) (p q : Place) : Type 0 where
 abbrev pub Apart : (m d : ℕ) → List Place → Type 0
 Apart m d ps = (j k : ℕ) → j < length ps → k < length ps → Shares m d (get_or ps j (0, 0)) (get_or ps k (0, 0)) → j ≡ k
 
-module _ (m : ℕ) (ps : List Place) (hm : m ≤ 12) (long : length ps ≡ 2 ^ m) (inside : AllByRecursion OnPanel ps) where
+module _ (m : ℕ) (ps : List Place) (hm : m ≤ 12) (long : length ps ≡ 2 ^ m) (inside : All OnPanel ps) where
   net_by_numbers : ((d : ℕ) → d ≤ m → (n : ℕ) → n < 2 ^ m → held m d n ps ≡ 1) → IsNet m ps
   net_by_numbers one =
       record {
@@ -76,6 +78,7 @@ module _ (m : ℕ) (ps : List Place) (hm : m ≤ 12) (long : length ps ≡ 2 ^ m
 
   -- and so is one whose places lie apart
   pub net_from_apart : ((d : ℕ) → d ≤ m → Apart m d ps) → IsNet m ps
+  unfolding held
   net_from_apart apart =
       net_by_numbers
       (λ d hd. total_squeeze (λ n. held m d n ps) (λ _. 1) (2 ^ m)

@@ -1,4 +1,3 @@
 pub mod Counts
 pub mod Intervals
 pub mod Words
-pub mod Props

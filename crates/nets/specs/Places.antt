@@ -1,8 +1,6 @@
 -- Places, elementary intervals, and (0,m,2)-nets in base two (Niederreiter, Random Number Generation
 -- and Quasi-Monte Carlo Methods).
-use Rattle.std.specs.Prelude.{◌≡◌, ℕ, ◌+◌, ◌-◌, ◌*◌, ◌/◌, ◌^◌, ◌<◌, ◌≤◌, Bool, ◌&&◌, List, length, ◌==◌, nat_eq}
-use Rattle.std.specs.List.{AllByRecursion}
-use Rattle.nets.specs.Sums.{count}
+use Rattle.std.specs.Prelude.{◌≡◌, ℕ, ◌+◌, ◌-◌, ◌*◌, ◌/◌, ◌^◌, ◌<◌, ◌≤◌, Bool, ◌&&◌, List, length, All, count_by, ◌==◌}
 
 -- a place (x, y); a coordinate, 0 to 65535, stands for itself / 65536
 abbrev pub Place : Type 0
@@ -24,8 +22,8 @@ lies m d i j p = top d p.0 == i && top (m - d) p.1 == j
 pub record IsNet (m : ℕ) (ps : List Place) : Type 0 where
   pub level : m ≤ 12
   pub long : length ps ≡ 2 ^ m
-  pub inside : AllByRecursion OnPanel ps
-  pub one : (d i j : ℕ) → d ≤ m → i < 2 ^ d → j < 2 ^ (m - d) → count (lies m d i j) ps ≡ 1
+  pub inside : All OnPanel ps
+  pub one : (d i j : ℕ) → d ≤ m → i < 2 ^ d → j < 2 ^ (m - d) → count_by (lies m d i j) ps ≡ 1
 
 -- the intervals of a depth are numbered, (i, j) by i * 2^(m - d) + j.
 -- The number of the one in which a place lies
@@ -33,5 +31,5 @@ abbrev pub number : (m d : ℕ) → Place → ℕ
 number m d p = top d p.0 * 2 ^ (m - d) + top (m - d) p.1
 
 -- how many places the interval number n holds
-abbrev pub held : (m d n : ℕ) → List Place → ℕ
-held m d n ps = count (λ p. nat_eq (number m d p) n) ps
+unfoldable pub held : (m d n : ℕ) → List Place → ℕ
+held m d n ps = count_by (λ p. number m d p == n) ps

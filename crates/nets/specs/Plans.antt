@@ -1,6 +1,6 @@
 -- What the place call of a plan answers.
 use Rattle.std.specs.Prelude.{◌≡◌, ℕ, ◌^◌, ◌<◌, ◌≤◌, List, [], ◌∷◌, IfOk, Ok, Err, Result, slice_index_or}
-use Rattle.nets.specs.declared.net.PlaceFault.{PlaceFault}
+use Rattle.nets.specs.declared.faults.PlaceFault.{PlaceFault}
 use Rattle.nets.specs.Places.{Place}
 use Rattle.nets.specs.Refusals.{refused, place_told}
 

@@ -2,7 +2,11 @@
 #![tactic(auto)]
 
 pub mod bits;
+pub mod faults;
+pub mod level;
 pub mod net;
 
 pub use bits::{digit_of, top_bits};
-pub use net::{Net, Place, PlaceFault, check_index};
+pub use faults::{LevelFault, PlaceFault};
+pub use level::Level;
+pub use net::{Net, Place, check_index};

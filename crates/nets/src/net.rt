@@ -3,14 +3,10 @@ ghost use Rattle.std.specs.Prelude.{◌≡◌, ℕ, ◌≤◌, List};
 ghost use Rattle.nets.specs.Places.{Place as Spot, IsNet};
 ghost use Rattle.nets.specs.Plans.{Indexed, Placed};
 
+use crate::faults::PlaceFault;
+
 // Two coordinates, x and y. Each stands for itself / 65,536.
 pub type Place = (u16, u16);
-
-#[derive(Clone, Copy)]
-pub enum PlaceFault {
-    // 11: no place has this index.
-    NoPlace(u32),
-}
 
 // A plan: a level m, at most 12, and a net of 2^m places in a fixed order.
 pub trait Net {
@@ -22,6 +18,7 @@ pub trait Net {
     fn show_net(&self)
         ensures { IsNet (level self.now) (places self.now) };
 
+    // A number and not a `Level`, since it is what a gauge reports.
     fn level(&self) -> u32
         ensures value { result ≡ level self.now }
         ensures bound { result ≤ 12 };

@@ -6,11 +6,11 @@ use Rattle.plans.specs.declared.plan.Plan.{Plan}
 use Rattle.plans.specs.declared.plan.Plan.TheVariants.{Hammersley, Sobol, Points}
 
 abbrev pub level_of : Plan → ℕ
-level_of (Hammersley p) = p.level
-level_of (Sobol p) = p.level
-level_of (Points p) = p.level
+level_of (Hammersley p) = p.level.m
+level_of (Sobol p) = p.level.m
+level_of (Points p) = p.level.m
 
 abbrev pub places_of : Plan → List Place
-places_of (Hammersley p) = hammersley_net p.level
-places_of (Sobol p) = sobol_net p.level
+places_of (Hammersley p) = hammersley_net p.level.m
+places_of (Sobol p) = sobol_net p.level.m
 places_of (Points p) = vec_items p.places

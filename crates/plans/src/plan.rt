@@ -5,13 +5,14 @@ use audit::PointList;
 use nets::{Net, Place, PlaceFault};
 use sequences::{Hammersley, Sobol};
 
-#[derive(Drop)]
+#[derive(Debug, Drop)]
 pub enum Plan {
     Hammersley(Hammersley),
     Sobol(Sobol),
     Points(PointList),
 }
 
+// A match in each call, since no function may make a dyn value and hand it out.
 impl Net for Plan {
     ghost level = { level_of };
 

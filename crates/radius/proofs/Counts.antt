@@ -1,30 +1,30 @@
 -- Counts of lists, by what holds of each element.
-use Rattle.std.proofs.Common.{◌≡◌, ℕ, zero, suc, ◌+◌, ◌-◌, ◌*◌, ◌/◌, ◌<◌, ◌≤◌, Bool, ◌&&◌, eqb, ltb, List, [], ◌∷◌, length, take, refl, div-lt_iff_lt-mul, arith}
+use Rattle.std.proofs.Common.{◌≡◌, ℕ, zero, suc, ◌+◌, ◌-◌, ◌*◌, ◌/◌, ◌<◌, ◌≤◌, Bool, ◌&&◌, eqb, ltb, List, [], ◌∷◌, length, take, count_by, refl, div-lt_iff_lt-mul, arith}
 use Rattle.std.proofs.lemmas.Bool.Decides.{nat_tests}
-use Rattle.nets.specs.Sums.{one_if, count}
+use Rattle.nets.proofs.Counts.{one_if, count-cons}
 
 module _ {X : Type 0} (p : X → Bool) where
-  pub count_zero : ((x : X) → one_if (p x) ≡ 0) → (xs : List X) → count p xs ≡ 0
+  pub count_zero : ((x : X) → one_if (p x) ≡ 0) → (xs : List X) → count_by p xs ≡ 0
   count_zero h [] = refl
-  count_zero h (x ∷ xs) = omega (arith, h x, count_zero h xs)
+  count_zero h (x ∷ xs) = omega (arith, count-cons p x xs, h x, count_zero h xs)
 
-  pub count_under : (q : X → Bool) → ((x : X) → one_if (p x) ≤ one_if (q x)) → (xs : List X) → count p xs ≤ count q xs
+  pub count_under : (q : X → Bool) → ((x : X) → one_if (p x) ≤ one_if (q x)) → (xs : List X) → count_by p xs ≤ count_by q xs
   count_under q h [] = omega arith
-  count_under q h (x ∷ xs) = omega (arith, h x, count_under q h xs)
+  count_under q h (x ∷ xs) = omega (arith, count-cons p x xs, count-cons q x xs, h x, count_under q h xs)
 
-  pub count_split : (q r : X → Bool) → ((x : X) → one_if (p x) ≡ one_if (q x) + one_if (r x)) → (xs : List X) → count p xs ≡ count q xs + count r xs
+  pub count_split : (q r : X → Bool) → ((x : X) → one_if (p x) ≡ one_if (q x) + one_if (r x)) → (xs : List X) → count_by p xs ≡ count_by q xs + count_by r xs
   count_split q r h [] = refl
-  count_split q r h (x ∷ xs) = omega (arith, h x, count_split q r h xs)
+  count_split q r h (x ∷ xs) = omega (arith, count-cons p x xs, count-cons q x xs, count-cons r x xs, h x, count_split q r h xs)
 
   one_at_most : (b : Bool) → one_if b ≤ 1
   one_at_most b = grind arith
 
   -- the first n miss as many as are left at most
-  pub count_take : (n : ℕ) (xs : List X) → (count p (take n xs) ≤ count p xs) × (count p xs ≤ count p (take n xs) + (length xs - n))
+  pub count_take : (n : ℕ) (xs : List X) → (count_by p (take n xs) ≤ count_by p xs) × (count_by p xs ≤ count_by p (take n xs) + (length xs - n))
   count_take zero [] = omega arith
-  count_take zero (x ∷ xs) = omega (arith, one_at_most (p x), count_take zero xs)
+  count_take zero (x ∷ xs) = omega (arith, count-cons p x xs, one_at_most (p x), count_take zero xs)
   count_take (suc n) [] = omega arith
-  count_take (suc n) (x ∷ xs) = omega (arith, count_take n xs)
+  count_take (suc n) (x ∷ xs) = omega (arith, count-cons p x xs, count-cons p x (take n xs), count_take n xs)
 
 -- below t + 1 parts of size g: below t parts, or in part t
 pub below_next : (x g t : ℕ) → 0 < g → one_if (ltb x (suc t * g)) ≡ one_if (ltb x (t * g)) + one_if (eqb (x / g) t)

@@ -2,12 +2,11 @@
 -- at a height, is off by one place at most. The ends of a strip of depth k are reached by adding and
 -- taking away strips of depths up to k, so that the two are off by k + 1 together; and every box ends
 -- within a strip of depth m, which holds one place.
-use Rattle.std.proofs.Common.{◌≡◌, ℕ, zero, suc, ◌+◌, ◌-◌, ◌*◌, ◌/◌, ◌%◌, ◌^◌, ◌<◌, ◌≤◌, Bool, ◌&&◌, eqb, ltb, ◌⊎◌, List, ap, ◌∙◌, subst, inl, inr, ⊎_elim, mul-le-mul_right, div-lt_iff_lt-mul, mul-le-mul_left, div-mul-le_self, arith, pow_pos, pow-add}
+use Rattle.std.proofs.Common.{◌≡◌, ℕ, zero, suc, ◌+◌, ◌-◌, ◌*◌, ◌/◌, ◌%◌, ◌^◌, ◌<◌, ◌≤◌, Bool, ◌&&◌, eqb, ltb, ◌⊎◌, List, count_by, ap, ◌∙◌, subst, inl, inr, ⊎_elim, mul-le-mul_right, div-lt_iff_lt-mul, mul-le-mul_left, div-mul-le_self, arith, pow_pos, pow-add}
 use native.Mathlib.Nat.{lt-div-mul-add}
 use Rattle.std.proofs.lemmas.Bool.{cases_lt}
 use Rattle.std.proofs.lemmas.Bool.Decides.{nat_tests}
 use Rattle.nets.specs.Places.{Place, IsNet}
-use Rattle.nets.specs.Sums.{count}
 use Rattle.nets.proofs.Intervals.{pow_sum}
 use Rattle.coats.specs.Terms.{boxed}
 use Rattle.radius.specs.Claims.{Off, Shares, BoxShares}
@@ -32,17 +31,17 @@ abbrev strip : (g a v : ℕ) → Place → Bool
 strip g a v p = eqb (p.0 / g) a && ltb p.1 v
 
 -- a strip whose n intervals, each of height h, hold one place each
-module _ (ps : List Place) (g a h n : ℕ) (hp : 0 < h) (one : (j : ℕ) → j < n → count (λ p. eqb (p.0 / g) a && eqb (p.1 / h) j) ps ≡ 1) where
-  whole_intervals : (j : ℕ) → j ≤ n → count (strip g a (j * h)) ps ≡ j
+module _ (ps : List Place) (g a h n : ℕ) (hp : 0 < h) (one : (j : ℕ) → j < n → count_by (λ p. eqb (p.0 / g) a && eqb (p.1 / h) j) ps ≡ 1) where
+  whole_intervals : (j : ℕ) → j ≤ n → count_by (strip g a (j * h)) ps ≡ j
   whole_intervals zero hj = count_zero (strip g a (0 * h)) (λ p. grind (arith, nat_tests)) ps
   whole_intervals (suc j) hj =
       let next = count_split (strip g a (suc j * h)) (strip g a (j * h)) _ (λ p. and_left (eqb (p.0 / g) a) _ _ _ (below_next p.1 h j hp)) ps in
       omega (arith, one j hj, whole_intervals j (omega arith), next)
 
-  at_least : (v j : ℕ) → j ≤ n → j * h ≤ v → j ≤ count (strip g a v) ps
+  at_least : (v j : ℕ) → j ≤ n → j * h ≤ v → j ≤ count_by (strip g a v) ps
   at_least v j hj le = omega (arith, whole_intervals j hj, count_under (strip g a (j * h)) (strip g a v) (λ p. grind (arith, nat_tests)) ps)
 
-  at_most : (v j : ℕ) → j ≤ n → v ≤ j * h → count (strip g a v) ps ≤ j
+  at_most : (v j : ℕ) → j ≤ n → v ≤ j * h → count_by (strip g a v) ps ≤ j
   at_most v j hj le = omega (arith, whole_intervals j hj, count_under (strip g a v) (strip g a (j * h)) (λ p. grind (arith, nat_tests)) ps)
 
 parity : (t : ℕ) → (2 * (t / 2) ≡ t) ⊎ (suc (2 * (t / 2)) ≡ t)
@@ -69,9 +68,9 @@ module _ (m v : ℕ) (ps : List Place) (net : IsNet m ps) (v_low : 1 ≤ v) (v_h
 
   -- the box of width u is off by e
   BoxOff : (e u : ℕ) → Type 0
-  BoxOff e u = Off e (count (boxed u v) ps) (2 ^ m * (u * v))
+  BoxOff e u = Off e (count_by (boxed u v) ps) (2 ^ m * (u * v))
 
-  one_strip : (k a : ℕ) → k ≤ m → a < 2 ^ k → Off 1 (count (strip (width k) a v) ps) (2 ^ m * (width k * v)) × (count (strip (width k) a v) ps ≤ 2 ^ (m - k))
+  one_strip : (k a : ℕ) → k ≤ m → a < 2 ^ k → Off 1 (count_by (strip (width k) a v) ps) (2 ^ m * (width k * v)) × (count_by (strip (width k) a v) ps ≤ 2 ^ (m - k))
   one_strip k a hk ha =
       let r : ℕ = m - k in
       let hp = pow_pos (16 - r) in
@@ -85,7 +84,7 @@ module _ (m v : ℕ) (ps : List Place) (net : IsNet m ps) (v_low : 1 ≤ v) (v_h
         most (2 ^ r) (omega arith) (omega arith),
       )
 
-  next : (k t : ℕ) → count (boxed (suc t * width k) v) ps ≡ count (boxed (t * width k) v) ps + count (strip (width k) t v) ps
+  next : (k t : ℕ) → count_by (boxed (suc t * width k) v) ps ≡ count_by (boxed (t * width k) v) ps + count_by (strip (width k) t v) ps
   next k t = count_split _ _ _ (λ p. and_right (ltb p.1 v) _ _ _ (below_next p.0 (width k) t (pow_pos (16 - k)))) ps
 
   forth : (k e t : ℕ) → k ≤ m → t < 2 ^ k → BoxOff e (t * width k) → BoxOff (e + 1) (suc t * width k)
@@ -154,7 +153,7 @@ module _ (m v : ℕ) (ps : List Place) (net : IsNet m ps) (v_low : 1 ≤ v) (v_h
       let p = ends m t (omega arith) at.within in
       let none : m - m ≡ 0 = omega arith in
       let single : 2 ^ (m - m) ≡ 1 = ap (λ z. 2 ^ z) none in
-      between m p.left p.right _ _ (count (boxed u v) ps) (2 ^ m) v t g u p.few p.at_left p.at_right
+      between m p.left p.right _ _ (count_by (boxed u v) ps) (2 ^ m) v t g u p.few p.at_left p.at_right
       (count_under (boxed (t * g) v) (boxed u v) (λ p. grind (arith, nat_tests, at.low)) ps)
       (count_under (boxed u v) (boxed (suc t * g) v) (λ p. grind (arith, nat_tests, at.high)) ps)
       (omega (arith, next m t, (one_strip m t (omega arith) at.within).1)) at whole v_high

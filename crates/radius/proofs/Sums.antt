@@ -1,12 +1,13 @@
 -- A sum over the first places of a net, term by term: each term costs its box's error and the places
 -- that are not taken. Two sums near one integral are near each other.
-use Rattle.std.proofs.Common.{◌≡◌, ℕ, suc, ◌+◌, ◌-◌, ◌*◌, ◌^◌, ◌≤◌, Bool, true, false, cond, List, [], ◌∷◌, take, ℤ, pos, negsuc, ◌+ℤ◌, ◌-ℤ◌, ◌*ℤ◌, nat_abs, sum_by, sym, refl, ap, ◌∙◌, subst, add-mul, mul-le-mul_left, mul-add, arith}
+use Rattle.std.proofs.Common.{◌≡◌, ℕ, suc, ◌+◌, ◌-◌, ◌*◌, ◌^◌, ◌≤◌, Bool, true, false, cond, List, [], ◌∷◌, take, ℤ, pos, negsuc, ◌+ℤ◌, ◌-ℤ◌, ◌*ℤ◌, nat_abs, count_by, sum_by, sym, refl, ap, ◌∙◌, subst, add-mul, mul-le-mul_left, mul-add, arith}
 use borrow.Author.Differences.{up, down, sum_is_lem, product_is}
-use Rattle.std.specs.List.{AllByRecursion}
+use Rattle.std.specs.List.{All}
 use Rattle.std.proofs.lemmas.Int.{ints}
+use Rattle.std.proofs.lemmas.List.Elements.{All-head, All-tail}
 use Rattle.std.proofs.lemmas.List.Sums.{sum_by-cons}
 use Rattle.nets.specs.Places.{Place, IsNet}
-use Rattle.nets.specs.Sums.{one_if, count}
+use Rattle.nets.proofs.Counts.{one_if, count-cons}
 use Rattle.coats.specs.declared.term.Term.{Term}
 use Rattle.coats.specs.Terms.{boxed, weight, integral, Sides, IsMap}
 use Rattle.coats.proofs.Sums.{sum_of_shuffled}
@@ -43,21 +44,21 @@ added_none : (ps : List Place) → added [] ps ≡ pos 0
 added_none [] = refl
 added_none (p ∷ ps) = omega (arith, ints, added_none ps)
 
-added_term : (t : Term) (ts : List Term) (ps : List Place) → added (t ∷ ts) ps ≡ t.w *ℤ pos (count (boxed t.u t.v) ps) +ℤ added ts ps
+added_term : (t : Term) (ts : List Term) (ps : List Place) → added (t ∷ ts) ps ≡ t.w *ℤ pos (count_by (boxed t.u t.v) ps) +ℤ added ts ps
 added_term t ts [] = omega (arith, ints)
-added_term t ts (p ∷ ps) = omega (arith, ints, picked (boxed t.u t.v p) t.w, added_term t ts ps)
+added_term t ts (p ∷ ps) = rw (count-cons (boxed t.u t.v) p ps) (omega (arith, ints, picked (boxed t.u t.v p) t.w, added_term t ts ps))
 
-module _ (m n : ℕ) (ps : List Place) (net : IsNet m ps) (err : Term → ℕ) (shares : (t : Term) → Sides t → Off (err t) (count (boxed t.u t.v) ps) (2 ^ m * (t.u * t.v))) where
+module _ (m n : ℕ) (ps : List Place) (net : IsNet m ps) (err : Term → ℕ) (shares : (t : Term) → Sides t → Off (err t) (count_by (boxed t.u t.v) ps) (2 ^ m * (t.u * t.v))) where
   -- what terms cost
   abbrev cost : Term → ℕ
   cost t = (err t + (2 ^ m - n)) * nat_abs t.w
 
-  close : (ts : List Term) → AllByRecursion Sides ts → Close (2 ^ m) (sum_by cost ts * 2 ^ 32) (added ts (take n ps)) (integral ts)
+  close : (ts : List Term) → All Sides ts → Close (2 ^ m) (sum_by cost ts * 2 ^ 32) (added ts (take n ps)) (integral ts)
   close [] all = rw (added_none (take n ps)) (omega arith)
-  close (t ∷ ts) (s, all) =
-      let c : ℕ = count (boxed t.u t.v) (take n ps) in
-      let part : Off (err t + (2 ^ m - n)) c (2 ^ m * (t.u * t.v)) = omega (arith, shares t s, net.long, count_take (boxed t.u t.v) n ps) in
-      let both = close_sum _ _ _ _ _ _ _ (close_term (2 ^ m) (err t + (2 ^ m - n)) c (t.u * t.v) t.w part) (close ts all) in
+  close (t ∷ ts) all =
+      let c : ℕ = count_by (boxed t.u t.v) (take n ps) in
+      let part : Off (err t + (2 ^ m - n)) c (2 ^ m * (t.u * t.v)) = omega (arith, shares t (All-head Sides t ts all), net.long, count_take (boxed t.u t.v) n ps) in
+      let both = close_sum _ _ _ _ _ _ _ (close_term (2 ^ m) (err t + (2 ^ m - n)) c (t.u * t.v) t.w part) (close ts (All-tail Sides t ts all)) in
       rw (added_term t ts (take n ps), sum_by-cons cost t ts) (omega (arith, both))
 
 sum_by_times : (c : ℕ) (ts : List Term) → sum_by (λ t. c * nat_abs t.w) ts ≡ c * weight ts

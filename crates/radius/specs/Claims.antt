@@ -1,8 +1,7 @@
 -- What is proved of nets and maps.
-use Rattle.std.specs.Prelude.{ℕ, ◌+◌, ◌*◌, ◌^◌, ◌≤◌, List, take}
+use Rattle.std.specs.Prelude.{ℕ, ◌+◌, ◌*◌, ◌^◌, ◌≤◌, List, take, count_by}
 use Rattle.std.specs.List.Sorted.{IsPermutation}
 use Rattle.nets.specs.Places.{Place, IsNet}
-use Rattle.nets.specs.Sums.{count}
 use Rattle.coats.specs.declared.term.Term.{Term}
 use Rattle.coats.specs.Terms.{Side, boxed, IsMap}
 use Rattle.radius.specs.Radius.{added, radius, Near, Agree}
@@ -14,7 +13,7 @@ pub record Off (e c a : ℕ) : Type 0 where
 
 -- a box of a net of level m holds its share of the places, off by e m at most
 abbrev pub Shares : (ℕ → ℕ) → Type 0
-Shares e = (m u v : ℕ) (ps : List Place) → IsNet m ps → Side u → Side v → Off (e m) (count (boxed u v) ps) (2 ^ m * (u * v))
+Shares e = (m u v : ℕ) (ps : List Place) → IsNet m ps → Side u → Side v → Off (e m) (count_by (boxed u v) ps) (2 ^ m * (u * v))
 
 -- one place for each depth
 abbrev pub BoxShares : Type 0

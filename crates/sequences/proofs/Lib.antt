@@ -1,4 +1,4 @@
 pub mod Coordinates
 pub mod Pascal
 pub mod Columns
-pub mod Points
+pub mod AreNets

@@ -25,13 +25,10 @@ from_sums : (n : ℕ) (f : ℕ → ℕ) → ((r : ℕ) → r < n → sums f r % 
 from_sums n f h zero l = omega (arith, h 0 l)
 from_sums n f h (suc r) l = omega (arith, h (suc r) l, h r (omega arith))
 
-step : (a b g x : ℕ) → b * g + (a + b) * x + a * g ≡ (a + b) * (g + x)
-step a b g x = omega (arith, add-mul a b g, mul-add (a + b) g x)
-
 -- summation by parts
 by_parts : (n k : ℕ) (f : ℕ → ℕ) → total (suc n) (λ r. binomial r (suc k) * f r) + total n (λ r. binomial r k * sums f r) ≡ binomial n (suc k) * sums f n
 by_parts zero k f = omega arith
-by_parts (suc n) k f = omega (arith, by_parts n k f, step (binomial n k) (binomial n (suc k)) (sums f n) (f (suc n)))
+by_parts (suc n) k f = let rest = by_parts n k f in grind (arith, add-mul, mul-add)
 
 -- the first d of m numbers are even, and so are their first m - d sums with binomials: all are
 pub all_even : (m d : ℕ) (f : ℕ → ℕ) → d ≤ m → ((r : ℕ) → r < d → f r % 2 ≡ 0) → ((k : ℕ) → k < m - d → total m (λ r. binomial r k * f r) % 2 ≡ 0)

@@ -1,5 +1,5 @@
 -- The points of Hammersley (1960), and of Sobol (1967) in the first two coordinates and in natural order.
-use Rattle.std.specs.Prelude.{ℕ, zero, suc, ◌+◌, ◌-◌, ◌*◌, ◌%◌, ◌^◌, cond, List, map, ◌==◌, bit_xor}
+use Rattle.std.specs.Prelude.{ℕ, zero, suc, ◌+◌, ◌-◌, ◌*◌, ◌%◌, ◌^◌, if◌then◌else◌, List, map, ◌==◌, bit_xor}
 use Rattle.std.specs.List.{range_with_len}
 use Rattle.nets.specs.Digits.{digit, word}
 use Rattle.nets.specs.Places.{Place}
@@ -25,17 +25,20 @@ abbrev pub sobol : (m i : ℕ) → Place
 sobol m i = (word m (digit i) * 2 ^ (16 - m), word m (sobol_bit m i) * 2 ^ (16 - m))
 
 -- all points of level m
+abbrev pub points_of : (point : (m i : ℕ) → Place) (m : ℕ) → List Place
+points_of point m = map (point m) (range_with_len 0 (2 ^ m))
+
 abbrev pub hammersley_net : (m : ℕ) → List Place
-hammersley_net m = map (hammersley m) (range_with_len 0 (2 ^ m))
+hammersley_net = points_of hammersley
 
 abbrev pub sobol_net : (m : ℕ) → List Place
-sobol_net m = map (sobol m) (range_with_len 0 (2 ^ m))
+sobol_net = points_of sobol
 
 -- the direction number of digit r: bit k from the top is C(r, k) modulo 2
-abbrev pub column : (r : ℕ) → ℕ
+unfoldable pub column : (r : ℕ) → ℕ
 column r = word 16 (λ k. binomial r k % 2)
 
 -- the XOR of the columns of the set digits among the first n digits of i
 abbrev pub xor_columns : (n i : ℕ) → ℕ
 xor_columns zero i = 0
-xor_columns (suc n) i = bit_xor (xor_columns n i) (cond (digit i n == 1) (column n) 0)
+xor_columns (suc n) i = bit_xor (xor_columns n i) (if digit i n == 1 then column n else 0)

@@ -1,49 +1,23 @@
 // The points of Hammersley (1960) in two dimensions.
-ghost use Rattle.std.specs.Prelude.{◌≡◌, ◌^◌, ◌<◌, ◌≤◌};
-ghost use Rattle.sequences.specs.Refusals.{OfLevel};
-ghost use Rattle.sequences.specs.Sequences.{hammersley, hammersley_net};
+ghost use Rattle.sequences.specs.Sequences.{hammersley};
 
-use crate::faults::LevelFault;
-use crate::steps::*;
-use nets::{Net, Place, PlaceFault, check_index};
+use crate::index::Index;
+use crate::sequence::{Points, Sequence};
+use nets::{Level, Place};
 
-#[derive(Clone, Copy)]
-pub struct Hammersley {
-    level: u32,
-    ghost ok: { level ≤ 12 },
-}
+// Names the points of Hammersley in the type of a plan.
+#[derive(Clone, Copy, Debug, PartialEq, Eq)]
+pub struct HammersleyPoints;
 
-impl Hammersley {
-    // The plan of a level, which is refused if it is over 12.
-    pub fn new(level: u32) -> Result<Hammersley, LevelFault>
-        ensures { OfLevel (λ p. p.level) level result }
-    {
-        let level = checked_level(level)?;
-        Ok(Hammersley { level })
-    }
-}
+// The plan whose places they are.
+pub type Hammersley = Sequence<HammersleyPoints>;
 
-// The point at an index.
-fn point(level: u32, i: u32) -> Place
-    requires { (level ≤ 12) × (i < 2 ^ level) }
-    ensures { result ≡ hammersley level i }
-{
-    (coordinate(level, i), coordinate(level, reversed(level, i)))
-}
+impl Points for HammersleyPoints {
+    ghost point = { hammersley };
 
-impl Net for Hammersley {
-    ghost level = { λ p. p.level };
+    fn show_net(_level: Level) {}
 
-    ghost places = { λ p. hammersley_net p.level };
-
-    fn show_net(&self) {}
-
-    fn level(&self) -> u32 {
-        self.level
-    }
-
-    fn place(&self, i: u32) -> Result<Place, PlaceFault> {
-        check_index(self.level, i)?;
-        Ok(point(self.level, i))
+    fn point(index: Index) -> Place {
+        (index.in_order(), index.reversed())
     }
 }

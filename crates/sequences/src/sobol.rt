@@ -1,28 +1,17 @@
 // The first two coordinates of the sequence of Sobol (1967), in natural order.
-ghost use Rattle.std.specs.Prelude.{◌≡◌, ◌/◌, ◌^◌, ◌<◌, ◌≤◌, IfOk, bit_xor};
-ghost use Rattle.nets.specs.Plans.{Placed};
-ghost use Rattle.sequences.specs.Refusals.{OfLevel};
-ghost use Rattle.sequences.specs.Sequences.{sobol, sobol_net, xor_columns};
+ghost use Rattle.std.specs.Prelude.{◌≡◌, ◌/◌, bit_xor};
+ghost use Rattle.sequences.specs.Sequences.{sobol, xor_columns};
 
-use crate::faults::LevelFault;
-use crate::steps::*;
-use nets::{Net, Place, PlaceFault, check_index};
+use crate::index::Index;
+use crate::sequence::{Points, Sequence};
+use nets::{Level, Place};
 
-#[derive(Clone, Copy)]
-pub struct Sobol {
-    level: u32,
-    ghost ok: { level ≤ 12 },
-}
+// Names the points of Sobol in the type of a plan.
+#[derive(Clone, Copy, Debug, PartialEq, Eq)]
+pub struct SobolPoints;
 
-impl Sobol {
-    // The plan of a level, which is refused if it is over 12.
-    pub fn new(level: u32) -> Result<Sobol, LevelFault>
-        ensures { OfLevel (λ p. p.level) level result }
-    {
-        let level = checked_level(level)?;
-        Ok(Sobol { level })
-    }
-}
+// The plan whose places they are.
+pub type Sobol = Sequence<SobolPoints>;
 
 // The column after this one, by Pascal's rule modulo 2.
 fn next_column(column: u16) -> u16
@@ -32,14 +21,16 @@ fn next_column(column: u16) -> u16
 }
 
 // The XOR of the columns of the set digits of an index.
-fn xor_of_columns(level: u32, i: u32) -> u16
-    requires { level ≤ 12 }
-    ensures { result ≡ xor_columns level i }
+#[tactic(auto, using(crate::proofs::Columns::columns))]
+fn xor_of_columns(index: Index) -> u16
+    ensures columns { result ≡ xor_columns index.level.m index.i }
+    ensures y { result ≡ (sobol index.level.m index.i).1 }
 {
+    // A loop: with a fold over both values, that y is the XOR did not prove.
     let mut column: u16 = 0x8000;
     let mut y: u16 = 0;
-    for r in 0..level {
-        if digit_at(i, r) == 1 {
+    for r in 0..index.level.get() {
+        if index.digit(r) == 1 {
             y ^= column;
         }
         column = next_column(column);
@@ -47,34 +38,15 @@ fn xor_of_columns(level: u32, i: u32) -> u16
     y
 }
 
-// The point at an index.
-fn point(level: u32, i: u32) -> Place
-    requires { (level ≤ 12) × (i < 2 ^ level) }
-    ensures { result ≡ ((sobol level i).0, xor_columns level i) }
-{
-    (
-        coordinate(level, reversed(level, i)),
-        xor_of_columns(level, i),
-    )
-}
+impl Points for SobolPoints {
+    ghost point = { sobol };
 
-impl Net for Sobol {
-    ghost level = { λ p. p.level };
+    // y is the XOR of the columns of the set digits of the index.
+    ghost also = { λ m i p. p.1 ≡ xor_columns m i };
 
-    ghost places = { λ p. sobol_net p.level };
+    fn show_net(_level: Level) {}
 
-    fn show_net(&self) {}
-
-    fn level(&self) -> u32 {
-        self.level
-    }
-
-    // The place at an index. Its y is the XOR of the columns of the set digits of the index.
-    fn place(&self, i: u32) -> Result<Place, PlaceFault>
-        ensures placed { Placed self.now.level (sobol_net self.now.level) i result }
-        ensures columns { IfOk result (λ p. p.1 ≡ xor_columns self.now.level i) }
-    {
-        check_index(self.level, i)?;
-        Ok(point(self.level, i))
+    fn point(index: Index) -> Place {
+        (index.reversed(), xor_of_columns(index))
     }
 }

@@ -1,19 +1,17 @@
 -- What steps weigh, the coat that they give, and the sides of their terms.
-use Rattle.std.proofs.Common.{◌≡◌, ℕ, ◌+◌, ◌-◌, ◌*◌, ◌≤◌, Bool, true, false, cond, ◌&&◌, ltb, List, [], ◌∷◌, ◌++◌, map, length, ℤ, pos, ◌+ℤ◌, ◌*ℤ◌, nat_abs, vec_items, sum_by, sym, refl, ap, ◌∙◌, subst, ⊎_elim, add-mul, mul-add, arith}
+use Rattle.std.proofs.Common.{◌≡◌, ℕ, ◌*◌, ◌≤◌, Bool, true, false, cond, ◌&&◌, ltb, List, [], ◌∷◌, ◌++◌, map, length, ℤ, pos, ◌+ℤ◌, ◌*ℤ◌, nat_abs, sum_by, sym, refl, ap, ◌∙◌, subst, add-mul, mul-add, w32, SFits, arith}
+use Rattle.std.proofs.lemmas.Int.{ints}
 use lib.IntN.{zero-*ℤ, *ℤ-zero, *ℤ_comm}
-use Rattle.std.specs.List.{AllByRecursion}
-use Rattle.std.proofs.ByRecursion.{All-get_or, All-weaker, All-map}
-use Rattle.std.proofs.lemmas.List.{length-append, get_or_append_left, get_or-append_right, get_or-append-add}
+use Rattle.std.specs.List.{All}
+use Rattle.std.proofs.Math.Seq.{take-append_seam, drop-append_seam}
+use Rattle.std.proofs.lemmas.List.Elements.{All-take, All-drop, All-weaker, All-map}
 use Rattle.std.proofs.lemmas.List.Sums.{sum_by-cons, sum_by-append}
-use Rattle.std.proofs.lemmas.Bool.{cases_lt}
 use Rattle.nets.specs.Places.{Place}
 use Rattle.coats.specs.declared.term.Term.{Term}
 use Rattle.coats.specs.Terms.{sum_of, share, coat, weight, Sides}
 use Rattle.coats.proofs.Products.{times_sum, nat_abs_times}
 use Rattle.coats.proofs.Sums.{sum_of_same, sum_of_map, sum_of_joined, all_joined, coat_light}
 use Rattle.steps.specs.declared.row.Step.{Step}
-use Rattle.steps.specs.declared.map.Steps.{Steps}
-use Rattle.coats.specs.Refusals.{FirstOut}
 use Rattle.steps.specs.Rows.{pairing, rise, steps_terms, StepBounds}
 
 abbrev pub no_step : Step
@@ -26,7 +24,7 @@ both false b g h = sym (zero-*ℤ (cond b h (pos 0)))
 
 -- the sum of products by one number
 module _ {X : Type 0} (a : ℤ) (f : X → ℤ) where
-  pub sum_of_times : (xs : List X) → sum_of (λ x. a *ℤ f x) xs ≡ a *ℤ sum_of f xs
+  sum_of_times : (xs : List X) → sum_of (λ x. a *ℤ f x) xs ≡ a *ℤ sum_of f xs
   sum_of_times [] = sym (*ℤ-zero a)
   sum_of_times (x ∷ xs) = ap (λ z. a *ℤ f x +ℤ z) (sum_of_times xs) ∙ sym (times_sum a (f x) (sum_of f xs))
 
@@ -60,33 +58,19 @@ steps_weight (x ∷ xs) ys =
     sum_by-append (λ (t : Term). nat_abs t.w) (map (pairing x) ys) (steps_terms xs ys)
     ∙ (let one = one_weight x ys in let q = add-mul (size x) (sum_by size xs) (sum_by size ys) in let rest = steps_weight xs ys in rw (sum_by-cons size x xs) (omega arith))
 
-all_parts : (xs ys : List Step) → AllByRecursion StepBounds (xs ++ ys) → AllByRecursion StepBounds xs × AllByRecursion StepBounds ys
-all_parts [] ys h = (tt, h)
-all_parts (x ∷ xs) ys (h, hs) = let p = all_parts xs ys hs in ((h, p.0), p.1)
-
-pub steps_sides : (xs ys : List Step) → AllByRecursion StepBounds (xs ++ ys) → AllByRecursion Sides (steps_terms xs ys)
+pub steps_sides : (xs ys : List Step) → All StepBounds (xs ++ ys) → All Sides (steps_terms xs ys)
 steps_sides xs ys h =
-    let p = all_parts xs ys h in
-    let row : (a : Step) → StepBounds a → AllByRecursion Sides (map (pairing a) ys) = λ a k. All-map Sides (pairing a) ys (All-weaker StepBounds (λ b. Sides (pairing a b)) (λ b l. (k, l)) ys p.1) in
-    all_joined (λ a. map (pairing a) ys) Sides xs (All-weaker StepBounds (λ a. AllByRecursion Sides (map (pairing a) ys)) row xs p.0)
+    let for_x : All StepBounds xs = subst (All StepBounds) (take-append_seam xs ys) (All-take StepBounds (length xs) (xs ++ ys) h) in
+    let for_y : All StepBounds ys = subst (All StepBounds) (drop-append_seam xs ys) (All-drop StepBounds (length xs) (xs ++ ys) h) in
+    let row : (a : Step) → StepBounds a → All Sides (map (pairing a) ys) = λ a k. All-map Sides (pairing a) ys (All-weaker StepBounds (λ b. Sides (pairing a b)) (λ b l. (k, l)) ys for_y) in
+    all_joined (λ a. map (pairing a) ys) Sides xs (All-weaker StepBounds (λ a. All Sides (map (pairing a) ys)) row xs for_x)
 
--- the first step out of its bounds, among those for x or after them
-module _ (xs ys : List Step) (i : ℕ) where
-  pub out_for_x : FirstOut StepBounds xs i → FirstOut StepBounds (xs ++ ys) i
-  out_for_x f =
-      record {
-        here = omega (arith, f.here, length-append xs ys);
-        out = λ at. f.out (λ d. subst StepBounds (get_or_append_left xs ys d i f.here) (at d));
-        before = λ k d low h. subst StepBounds (sym (get_or_append_left xs ys d k (omega (arith, f.here)))) (f.before k d low h);
-      }
+-- the height along x times the height along y is the coat, and small
+pub heights : (xs ys : List Step) (p : Place) (a b : ℤ) → a ≡ sum_of (rise p.0) xs → b ≡ sum_of (rise p.1) ys → weight (steps_terms xs ys) ≤ 16384 → (a *ℤ b ≡ coat (steps_terms xs ys) p) × (nat_abs (a *ℤ b) ≤ 16384)
+heights xs ys p a b x y light =
+    let is : a *ℤ b ≡ coat (steps_terms xs ys) p = rw (x, y) (sym (steps_coat p.0 p.1 ys xs)) in
+    (is, rw is (coat_light (steps_terms xs ys) p light))
 
-  pub out_for_y : AllByRecursion StepBounds xs → FirstOut StepBounds ys i → FirstOut StepBounds (xs ++ ys) (length xs + i)
-  out_for_y all f =
-      record {
-        here = omega (arith, f.here, length-append xs ys);
-        out = λ at. f.out (λ d. subst StepBounds (get_or-append-add xs ys i d) (at d));
-        before = λ k d low h. ⊎_elim (λ l. subst StepBounds (sym (get_or_append_left xs ys d k l)) (All-get_or StepBounds xs k d l all)) (λ l. subst StepBounds (sym (get_or-append_right xs ys (length xs) k d refl l)) (f.before (k - length xs) d (omega arith) (omega arith))) (cases_lt k (length xs));
-      }
-
-pub coat_of_light : (m : Steps) (p : Place) → nat_abs (coat (steps_terms (vec_items m.x) (vec_items m.y)) p) ≤ 16384
-coat_of_light m p = coat_light (steps_terms (vec_items m.x) (vec_items m.y)) p (omega (arith, m.weighs, m.light))
+-- a height along x times a height along y fits its type, whatever the coordinates
+pub heights_fit : (xs ys : List Step) (at_x at_y : ℕ) (a b : ℤ) → a ≡ sum_of (rise at_x) xs → b ≡ sum_of (rise at_y) ys → weight (steps_terms xs ys) ≤ 16384 → SFits w32 (a *ℤ b)
+heights_fit xs ys at_x at_y a b x y light = omega (arith, ints, heights xs ys (at_x, at_y) a b x y light)

@@ -1,5 +1,5 @@
 -- Steps: the bounds of a row, and the terms that rows mean.
-use Rattle.std.specs.Prelude.{ℕ, cond, List, map, ℤ, pos, ◌*ℤ◌, nat_lt}
+use Rattle.std.specs.Prelude.{ℕ, if◌then◌else◌, List, map, ℤ, pos, ◌*ℤ◌, nat_lt}
 use Rattle.std.specs.List.{flat_map}
 use Rattle.coats.specs.declared.term.Term.{Term}
 use Rattle.coats.specs.Terms.{Side, term}
@@ -17,4 +17,4 @@ steps_terms xs ys = flat_map (λ a. map (pairing a) ys) xs
 
 -- what a step adds at a coordinate
 abbrev pub rise : ℕ → Step → ℤ
-rise a s = cond (nat_lt a s.bound) s.value (pos 0)
+rise a s = if nat_lt a s.bound then s.value else pos 0

@@ -1,6 +1,7 @@
 // Step maps: steps along x times steps along y.
 #![tactic(auto)]
 
+mod axes;
 pub mod calls;
 pub mod map;
 pub mod row;

@@ -5,7 +5,7 @@ ghost use Rattle.steps.specs.Rows.{StepBounds, rise};
 use coats::{Bounded, is_bound};
 
 // A value on the coordinates below a bound.
-#[derive(Clone, Copy)]
+#[derive(Clone, Copy, Debug, PartialEq, Eq)]
 pub struct Step {
     pub value: i16,
     pub bound: u32,
@@ -32,10 +32,11 @@ impl Step {
         }
     }
 
-    pub(crate) fn size(self) -> u64
+    // Its value without the sign.
+    pub(crate) fn size(self) -> u32
         ensures value { result ≡ unsigned_abs self.value }
         ensures bound { result ≤ 32768 }
     {
-        u64::from(self.value.unsigned_abs())
+        u32::from(self.value.unsigned_abs())
     }
 }

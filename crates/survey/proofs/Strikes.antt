@@ -1,9 +1,10 @@
 -- Every life has a struck one, which is a life with the same recipe, limit and count.
-use Rattle.std.proofs.Common.{◌≡◌, ℕ, ◌+◌, Bool, true, false, cond, List, [], ◌∷◌, sym, refl, ap, ◌∙◌, subst}
+use Rattle.std.proofs.Common.{◌≡◌, ℕ, List, [], ◌∷◌, refl, ap, inl, inr}
+use Rattle.std.proofs.lemmas.Bool.{cases_Bool}
 use Rattle.coats.specs.declared.term.Term.{Term}
 use Rattle.coats.specs.Terms.{IsMap}
 use Rattle.survey.specs.Recipes.{Plan, Recipe, IsPlan}
-use Rattle.survey.specs.Life.{take, report, set_limit, begin, map_page, commit, abandon, Answer, begun, paged, accepts, History, Stage, survey, half, full, stage, held, limit, taken, on_take, on_report, on_limit, on_commit, answer, Lived}
+use Rattle.survey.specs.Life.{take, report, set_limit, begin, map_page, commit, abandon, Answer, begun, paged, accepts, History, survey, half, full, stage, held, limit, taken, on_commit, answer, Lived}
 use Rattle.survey.specs.Strikes.{Struck, nothing, stays, goes, changed, lost, left_half, left_full, Strikes, closed, open_half, open_full}
 
 -- g is what is left of h, where no change is open
@@ -22,155 +23,73 @@ data View (o : Recipe) : History → Type 0 where
   at_half : {h : History} (g : History) (p : Plan) → IsPlan p → Same o h g → View o ((begin p, begun) ∷ h)
   at_full : {h : History} (g : History) (p : Plan) (t : List Term) → IsPlan p → IsMap t → Same o h g → View o ((map_page t, paged) ∷ (begin p, begun) ∷ h)
 
--- stages are told apart
-Closed : Stage → Type 0
-Closed survey = Unit {0}
-Closed (half p) = ⊥
-Closed (full p t) = ⊥
-
-Half : Stage → Type 0
-Half survey = ⊥
-Half (half p) = Unit {0}
-Half (full p t) = ⊥
-
-Full : Stage → Type 0
-Full survey = ⊥
-Full (half p) = ⊥
-Full (full p t) = Unit {0}
-
 same_at : (o : Recipe) (h : History) → View o h → stage h ≡ survey → (g : History) × Same o h g
-unfolding Closed
 same_at o h (at_survey g s) e = (g, s)
-same_at o _ (at_half g p hp s) e = absurd (subst Closed (sym e) tt)
-same_at o _ (at_full g p t hp ht s) e = absurd (subst Closed (sym e) tt)
-
-split : {X : Type 0} (b : Bool) → (b ≡ true → X) → (b ≡ false → X) → X
-split true f g = f refl
-split false f g = g refl
+same_at o _ (at_half g p hp s) e = absurd cc
+same_at o _ (at_full g p t hp ht s) e = absurd cc
 
 module _ (o : Recipe) where
   -- after a take, a report or a limit
   take_more : (k : ℕ) (a : Answer) (h g : History) → a ≡ answer o h (take k) → Same o h g → (g' : History) × Same o ((take k, a) ∷ h) g'
   take_more k a h g e s =
-      split (accepts a)
-      (λ yes. (
-        (take k, a) ∷ g,
-        record {
-          struck = stays (take k) a refl yes s.struck;
-          lived = (s.lived, s.there, e ∙ ap (λ (q : Recipe). on_take q (taken h) k) (sym s.helds) ∙ ap (λ (n : ℕ). on_take (held o g) n k) (sym s.takens));
-          helds = s.helds;
-          limits = s.limits;
-          takens = ap (λ (n : ℕ). cond (accepts a) (n + k) n) s.takens;
-          here = s.here;
-          there = s.there;
-        },
-      ))
-      (λ no. (
-        g,
-        record {
-          struck = goes (take k) a refl no s.struck;
-          lived = s.lived;
-          helds = s.helds;
-          limits = s.limits;
-          takens = s.takens ∙ sym (ap (λ (b : Bool). cond b (taken h + k) (taken h)) no);
-          here = s.here;
-          there = s.there;
-        },
-      ))
+      elim (cases_Bool (accepts a)) [
+        | inl accepted ↦ (
+          (take k, a) ∷ g,
+          record { struck = stays (take k) a refl accepted s.struck; lived = (s.lived, s.there, cc); helds = s.helds; limits = s.limits; takens = cc; here = s.here; there = s.there },
+        )
+        | inr refused ↦ (g, record { struck = goes (take k) a refl refused s.struck; lived = s.lived; helds = s.helds; limits = s.limits; takens = rw refused s.takens; here = s.here; there = s.there })
+      ]
 
   limit_more : (l : ℕ) (a : Answer) (h g : History) → a ≡ answer o h (set_limit l) → Same o h g → (g' : History) × Same o ((set_limit l, a) ∷ h) g'
   limit_more l a h g e s =
-      split (accepts a)
-      (λ yes. (
-        (set_limit l, a) ∷ g,
-        record {
-          struck = stays (set_limit l) a refl yes s.struck;
-          lived = (s.lived, s.there, e ∙ ap (λ (q : Recipe). on_limit q l) (sym s.helds));
-          helds = s.helds;
-          limits = ap (λ (n : ℕ). cond (accepts a) l n) s.limits;
-          takens = s.takens;
-          here = s.here;
-          there = s.there;
-        },
-      ))
-      (λ no. (
-        g,
-        record {
-          struck = goes (set_limit l) a refl no s.struck;
-          lived = s.lived;
-          helds = s.helds;
-          limits = s.limits ∙ sym (ap (λ (b : Bool). cond b l (limit h)) no);
-          takens = s.takens;
-          here = s.here;
-          there = s.there;
-        },
-      ))
+      elim (cases_Bool (accepts a)) [
+        | inl accepted ↦ (
+          (set_limit l, a) ∷ g,
+          record { struck = stays (set_limit l) a refl accepted s.struck; lived = (s.lived, s.there, cc); helds = s.helds; limits = cc; takens = s.takens; here = s.here; there = s.there },
+        )
+        | inr refused ↦ (g, record { struck = goes (set_limit l) a refl refused s.struck; lived = s.lived; helds = s.helds; limits = rw refused s.limits; takens = s.takens; here = s.here; there = s.there })
+      ]
 
   report_more : (a : Answer) (h g : History) → a ≡ answer o h report → Same o h g → (g' : History) × Same o ((report, a) ∷ h) g'
   report_more a h g e s = (
     (report, a) ∷ g,
-    record {
-      struck = stays report a refl (ap accepts e) s.struck;
-      lived = (s.lived, s.there, e ∙ ap (λ (q : Recipe). on_report q (taken h)) (sym s.helds) ∙ ap (on_report (held o g)) (sym s.takens));
-      helds = s.helds;
-      limits = s.limits;
-      takens = s.takens;
-      here = s.here;
-      there = s.there;
-    },
+    record { struck = stays report a refl (ap accepts e) s.struck; lived = (s.lived, s.there, cc); helds = s.helds; limits = s.limits; takens = s.takens; here = s.here; there = s.there },
   )
 
   -- after a commit of a change
   commit_more : (a : Answer) (h g : History) (p : Plan) (t : List Term) → IsPlan p → IsMap t → a ≡ on_commit (record { plan = p; map = t }) (limit h) → Same o h g →
       (g' : History) × Same o ((commit, a) ∷ (map_page t, paged) ∷ (begin p, begun) ∷ h) g'
   commit_more a h g p t hp ht e s =
-      split (accepts a)
-      (λ yes. (
-        (commit, a) ∷ (map_page t, paged) ∷ (begin p, begun) ∷ g,
-        record {
-          struck = changed p t begun paged a yes s.struck;
-          lived = (((s.lived, (s.there, hp), refl), ((p, refl), ht), refl), (p, t, refl), e ∙ ap (on_commit (record { plan = p; map = t })) (sym s.limits));
-          helds = ap (λ (q : Recipe). cond (accepts a) (record { plan = p; map = t }) q) s.helds;
-          limits = s.limits;
-          takens = ap (λ (n : ℕ). cond (accepts a) 0 n) s.takens;
-          here = refl;
-          there = refl;
-        },
-      ))
-      (λ no. (
-        g,
-        record {
-          struck = lost p t begun paged a no s.struck;
-          lived = s.lived;
-          helds = s.helds ∙ sym (ap (λ (b : Bool). cond b (record { plan = p; map = t }) (held o h)) no);
-          limits = s.limits;
-          takens = s.takens ∙ sym (ap (λ (b : Bool). cond b 0 (taken h)) no);
-          here = refl;
-          there = s.there;
-        },
-      ))
-
-  -- a history that is as it was, but for a change that was given up
-  given_up : (h h' g : History) → Struck h' g → held o h' ≡ held o h → limit h' ≡ limit h → taken h' ≡ taken h → stage h' ≡ survey → Same o h g → Same o h' g
-  given_up h h' g struck eh el et here s =
-      record { struck = struck; lived = s.lived; helds = s.helds ∙ sym eh; limits = s.limits ∙ sym el; takens = s.takens ∙ sym et; here = here; there = s.there }
+      elim (cases_Bool (accepts a)) [
+        | inl accepted ↦ (
+          (commit, a) ∷ (map_page t, paged) ∷ (begin p, begun) ∷ g,
+          record {
+            struck = changed p t begun paged a accepted s.struck;
+            lived = (((s.lived, (s.there, hp), refl), ((p, refl), ht), refl), (p, t, refl), cc);
+            helds = cc;
+            limits = s.limits;
+            takens = cc;
+            here = refl;
+            there = refl;
+          },
+        )
+        | inr refused ↦ (g, record { struck = lost p t begun paged a refused s.struck; lived = s.lived; helds = rw refused s.helds; limits = s.limits; takens = rw refused s.takens; here = refl; there = s.there })
+      ]
 
   page_more : (a : Answer) (t : List Term) (h : History) (p : Plan) → stage h ≡ half p → IsMap t → a ≡ paged → View o h → View o ((map_page t, a) ∷ h)
-  unfolding Half
-  page_more a t h p at ht e (at_survey g s) = absurd (subst Half (sym at ∙ s.here) tt)
-  page_more a t _ p at ht e (at_half {h} g q hq s) = subst (λ (b : Answer). View o ((map_page t, b) ∷ (begin q, begun) ∷ h)) (sym e) (at_full g q t hq ht s)
-  page_more a t _ p at ht e (at_full g q u hq hu s) = absurd (subst Half (sym at) tt)
+  page_more a t h p at ht e (at_survey g s) = absurd cc
+  page_more a t _ p at ht e (at_half {h} g q hq s) = rw e (at_full g q t hq ht s)
+  page_more a t _ p at ht e (at_full g q u hq hu s) = absurd cc
 
   commit_view : (a : Answer) (h : History) (p : Plan) (t : List Term) → stage h ≡ full p t → a ≡ answer o h commit → View o h → View o ((commit, a) ∷ h)
-  unfolding Full
-  commit_view a h p t at e (at_survey g s) = absurd (subst Full (sym at ∙ s.here) tt)
-  commit_view a _ p t at e (at_half g q hq s) = absurd (subst Full (sym at) tt)
+  commit_view a h p t at e (at_survey g s) = absurd cc
+  commit_view a _ p t at e (at_half g q hq s) = absurd cc
   commit_view a _ p t at e (at_full {h} g q u hq hu s) = let m = commit_more a h g q u hq hu e s in at_survey m.0 m.1
 
   abandon_view : (a : Answer) (h : History) → (stage h ≡ survey → ⊥) → View o h → View o ((abandon, a) ∷ h)
   abandon_view a h barred (at_survey g s) = absurd (barred s.here)
-  abandon_view a _ barred (at_half {h} g p hp s) = at_survey g (given_up h _ g (left_half p begun a s.struck) refl refl refl refl s)
-  abandon_view a _ barred (at_full {h} g p t hp ht s) = at_survey g (given_up h _ g (left_full p t begun paged a s.struck) refl refl refl refl s)
+  abandon_view a _ barred (at_half {h} g p hp s) = at_survey g (record { struck = left_half p begun a s.struck; lived = s.lived; helds = s.helds; limits = s.limits; takens = s.takens; here = refl; there = s.there })
+  abandon_view a _ barred (at_full {h} g p t hp ht s) = at_survey g (record { struck = left_full p t begun paged a s.struck; lived = s.lived; helds = s.helds; limits = s.limits; takens = s.takens; here = refl; there = s.there })
 
   alone_view : (h h' : History) → ((g : History) → Same o h g → (g' : History) × Same o h' g') → stage h ≡ survey → View o h → View o h'
   alone_view h h' more at v = let x = same_at o h v at in let y = more x.0 x.1 in at_survey y.0 y.1
@@ -182,7 +101,7 @@ module _ (o : Recipe) where
   view ((set_limit k, a) ∷ h) (l, ok, e) = alone_view h _ (λ g. limit_more k a h g e) ok (view h l)
   view ((begin p, a) ∷ h) (l, ok, e) =
       let x = same_at o h (view h l) ok.0 in
-      subst (λ (b : Answer). View o ((begin p, b) ∷ h)) (sym e) (at_half x.0 p ok.1 x.1)
+      rw e (at_half x.0 p ok.1 x.1)
   view ((map_page t, a) ∷ h) (l, ok, e) = page_more a t h ok.0.0 ok.0.1 ok.1 e (view h l)
   view ((commit, a) ∷ h) (l, ok, e) = commit_view a h ok.0 ok.1 ok.2 e (view h l)
   view ((abandon, a) ∷ h) (l, ok, e) = abandon_view a h ok (view h l)

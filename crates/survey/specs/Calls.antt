@@ -1,7 +1,7 @@
 -- What each call of a survey answers, and what the survey then is.
-use Rattle.std.specs.Prelude.{◌≡◌, ℕ, ◌+◌, List, take, drop, ℤ, pos, ◌+ℤ◌, Result, MatchResult}
-use Rattle.nets.specs.Places.{Place}
-use Rattle.coats.specs.declared.term.Term.{Term}
+use Rattle.std.specs.Prelude.{◌≡◌, ℕ, ◌+◌, take, drop, ℤ, pos, ◌+ℤ◌, Result, MatchResult}
+use Rattle.nets.specs.declared.net.Net.{Ghosts as Nets}
+use Rattle.coats.specs.declared.coat_map.CoatMap.{Ghosts as Maps}
 use Rattle.radius.specs.Radius.{added}
 use Rattle.survey.specs.Recipes.{Plan, Recipe, radius}
 use Rattle.survey.specs.Life.{reported, on_take, on_limit, on_commit}
@@ -13,9 +13,9 @@ use Rattle.survey.specs.declared.states.Report.{Report}
 use Rattle.survey.specs.declared.states.FullChange.{FullChange}
 use Rattle.survey.specs.declared.states.Committed.{Committed}
 
--- what plans of a type mean, by their levels and their places
-abbrev pub plans : {P : Type 0} → (P → ℕ) → (P → List Place) → P → Plan
-plans level places p = record { level = level p; places = places p }
+-- what a plan means, of a type whose plans are nets
+abbrev pub plan_of : {P : Type 0} → Nets P → P → Plan
+plan_of nets p = record { level = nets.level p; places = nets.places p }
 
 -- a survey by its parts
 pub record Is {P M : Type 0} (p : P) (m : M) (n : ℕ) (s : ℤ) (l : ℕ) (survey : Survey P M) : Type 0 where
@@ -29,14 +29,14 @@ pub record Is {P M : Type 0} (p : P) (m : M) (n : ℕ) (s : ℤ) (l : ℕ) (surv
 abbrev pub Opened : {P M : Type 0} → P → M → Survey P M → Type 0
 Opened p m s = Is p m 0 (pos 0) 212992 s
 
-module _ {P M : Type 0} (plan : P → Plan) (terms : M → List Term) where
+module _ {P M : Type 0} (nets : Nets P) (maps : Maps M) where
   -- the recipe that a survey holds
   abbrev pub recipe : Survey P M → Recipe
-  recipe s = record { plan = plan s.plan; map = terms s.map }
+  recipe s = record { plan = plan_of nets s.plan; map = maps.terms s.map }
 
   -- the coat at the k places from index n on
   abbrev pub next_coats : (k : ℕ) → Survey P M → ℤ
-  next_coats k s = added (terms s.map) (take k (drop s.count (plan s.plan).places))
+  next_coats k s = added (maps.terms s.map) (take k (drop s.count (nets.places s.plan)))
 
   -- accepted, a take adds the coat at k more places; refused, it leaves the survey as it was
   pub record Takes (k : ℕ) (old new : Survey P M) (r : Result ℕ TakeFault) : Type 0 where
@@ -48,9 +48,9 @@ module _ {P M : Type 0} (plan : P → Plan) (terms : M → List Term) where
     pub after : MatchResult r (λ _. Is old.plan old.map old.count old.sum l new) (λ _. new ≡ old)
 
   abbrev pub Reports : Survey P M → Report → Type 0
-  Reports s r = report_told r ≡ reported (plan s.plan).level s.count s.sum (radius (recipe s) s.count)
+  Reports s r = report_told r ≡ reported (nets.level s.plan) s.count s.sum (radius (recipe s) s.count)
 
   -- accepted, a commit gives a survey of the new recipe; refused, the old survey, entire
   pub record Commits (c : FullChange P M) (r : Committed P M) : Type 0 where
-    pub answers : commit_told r.outcome ≡ on_commit (record { plan = plan c.plan; map = terms c.map }) c.old.limit
+    pub answers : commit_told r.outcome ≡ on_commit (record { plan = plan_of nets c.plan; map = maps.terms c.map }) c.old.limit
     pub after : MatchResult r.outcome (λ _. Is c.plan c.map 0 (pos 0) c.old.limit r.survey) (λ _. r.survey ≡ c.old)

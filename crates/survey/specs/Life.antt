@@ -1,5 +1,5 @@
 -- A survey's life: the calls that were made of it with what each answered, the newest first.
-use Rattle.std.specs.Prelude.{◌≡◌, ℕ, zero, suc, ◌+◌, Bool, true, false, cond, List, [], ◌∷◌, ℤ, ◌==◌, nat_lt}
+use Rattle.std.specs.Prelude.{◌≡◌, ℕ, zero, suc, ◌+◌, Bool, true, false, if◌then◌else◌, List, [], ◌∷◌, ℤ, ◌==◌, nat_lt}
 use Rattle.coats.specs.declared.term.Term.{Term}
 use Rattle.coats.specs.Terms.{IsMap}
 use Rattle.survey.specs.Recipes.{Plan, Recipe, IsPlan, IsRecipe, left, sum, radius, depth_cost}
@@ -74,7 +74,7 @@ held o ((report, a) ∷ h) = held o h
 held o ((set_limit l, a) ∷ h) = held o h
 held o ((begin p, a) ∷ h) = held o h
 held o ((map_page t, a) ∷ h) = held o h
-held o ((commit, a) ∷ h) = cond (accepts a) (offered (held o h) (stage h)) (held o h)
+held o ((commit, a) ∷ h) = if accepts a then offered (held o h) (stage h) else held o h
 held o ((abandon, a) ∷ h) = held o h
 
 -- L: 212992, or that of the last limit that was accepted
@@ -82,7 +82,7 @@ abbrev pub limit : History → ℕ
 limit [] = 212992
 limit ((take k, a) ∷ h) = limit h
 limit ((report, a) ∷ h) = limit h
-limit ((set_limit l, a) ∷ h) = cond (accepts a) l (limit h)
+limit ((set_limit l, a) ∷ h) = if accepts a then l else limit h
 limit ((begin p, a) ∷ h) = limit h
 limit ((map_page t, a) ∷ h) = limit h
 limit ((commit, a) ∷ h) = limit h
@@ -91,26 +91,26 @@ limit ((abandon, a) ∷ h) = limit h
 -- n: the total of k over the takes accepted since the held recipe came in
 abbrev pub taken : History → ℕ
 taken [] = 0
-taken ((take k, a) ∷ h) = cond (accepts a) (taken h + k) (taken h)
+taken ((take k, a) ∷ h) = if accepts a then taken h + k else taken h
 taken ((report, a) ∷ h) = taken h
 taken ((set_limit l, a) ∷ h) = taken h
 taken ((begin p, a) ∷ h) = taken h
 taken ((map_page t, a) ∷ h) = taken h
-taken ((commit, a) ∷ h) = cond (accepts a) 0 (taken h)
+taken ((commit, a) ∷ h) = if accepts a then 0 else taken h
 taken ((abandon, a) ∷ h) = taken h
 
 -- the rules: what a take of k answers after n places, a report, a limit l, and a commit under the limit l
 abbrev pub on_take : Recipe → (n k : ℕ) → Answer
-on_take q n k = cond (k == 0) (numbered 21 (0 ∷ [])) (cond (nat_lt (left q.plan n) k) (numbered 22 (left q.plan n ∷ [])) (counted (n + k)))
+on_take q n k = if k == 0 then numbered 21 (0 ∷ []) else if nat_lt (left q.plan n) k then numbered 22 (left q.plan n ∷ []) else counted (n + k)
 
 abbrev pub on_report : Recipe → (n : ℕ) → Answer
 on_report q n = reported q.plan.level n (sum q n) (radius q n)
 
 abbrev pub on_limit : Recipe → (l : ℕ) → Answer
-on_limit q l = cond (nat_lt l (depth_cost q)) (numbered 23 (depth_cost q ∷ [])) limited
+on_limit q l = if nat_lt l (depth_cost q) then numbered 23 (depth_cost q ∷ []) else limited
 
 abbrev pub on_commit : Recipe → (l : ℕ) → Answer
-on_commit q l = cond (nat_lt l (depth_cost q)) (numbered 24 (depth_cost q ∷ [])) (numbered 0 [])
+on_commit q l = if nat_lt l (depth_cost q) then numbered 24 (depth_cost q ∷ []) else numbered 0 []
 
 -- what a call answers after a history
 abbrev pub answer : Recipe → History → Call → Answer

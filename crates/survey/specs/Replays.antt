@@ -2,10 +2,12 @@
 use Rattle.std.specs.Prelude.{◌≡◌, List, [], ◌∷◌, ◌++◌, map, IfOk, Some, None, vec_items, Option, Result, Vec}
 use Rattle.std.specs.declared.alloc.AllocError.{AllocError}
 use Rattle.std.specs.declared.alloc.Global.{Global}
-use Rattle.coats.specs.declared.term.Term.{Term}
-use Rattle.survey.specs.Recipes.{Plan, Recipe}
+use Rattle.nets.specs.declared.net.Net.{Ghosts as Nets}
+use Rattle.coats.specs.declared.coat_map.CoatMap.{Ghosts as Maps}
+use Rattle.survey.specs.Recipes.{Recipe}
 use Rattle.survey.specs.Life as life
 use Rattle.survey.specs.Life.{History, stage, Allowed}
+use Rattle.survey.specs.Calls.{plan_of}
 use Rattle.survey.specs.Gauges.{asked, told}
 use Rattle.survey.specs.Promise.{Promise}
 use Rattle.survey.specs.declared.gauge.Answer.{Answer}
@@ -29,6 +31,6 @@ pub record Replayed (o : Recipe) (cs : List life.Call) (rs : List (Option life.A
   pub runs : Runs o cs rs lives
   pub promise : Promise o lives
 
-module _ {P M : Type 0} (plan : P → Plan) (terms : M → List Term) where
+module _ {P M : Type 0} (nets : Nets P) (maps : Maps M) where
   abbrev pub Replays : P → M → List (Call P M) → Result (Vec (Option Answer) Global) AllocError → Type 0
-  Replays p m cs r = IfOk r (λ v. Replayed (record { plan = plan p; map = terms m }) (map (asked plan terms) cs) (map may_tell (vec_items v)))
+  Replays p m cs r = IfOk r (λ v. Replayed (record { plan = plan_of nets p; map = maps.terms m }) (map (asked nets maps) cs) (map may_tell (vec_items v)))

@@ -1,8 +1,8 @@
 // The calls of a survey.
 ghost use Rattle.std.specs.Prelude.{◌≡◌, ◌+◌, ◌*◌, ◌^◌, ◌<◌, ◌≤◌, slice_index_or, unsigned_abs};
 ghost use Rattle.coats.specs.Terms.{coat as coated};
-ghost use Rattle.radius.specs.Radius.{depth_part, rest_part};
-ghost use Rattle.survey.specs.Calls.{plans, recipe, Opened, Takes, Limits, Reports, next_coats};
+ghost use Rattle.radius.specs.Radius.{depth_part};
+ghost use Rattle.survey.specs.Calls.{plan_of, recipe, Opened, Takes, Limits, Reports, next_coats};
 ghost use Rattle.survey.specs.Lives.{Begins, TakeLives, ReportLives, LimitLives, NearTruth};
 ghost use Rattle.survey.specs.Recipes.{left as unread, radius as radius_of};
 
@@ -16,7 +16,7 @@ const FIRST_LIMIT: u64 = 212992;
 
 // What the depths of a plan cost a sum of a map.
 pub(crate) fn depth_cost<P: Net, M: CoatMap>(plan: &P, map: &M) -> u64
-    ensures value { result ≡ depth_part (P.Net.level plan.now) (M.CoatMap.terms map.now) }
+    ensures value { result ≡ depth_part (P.level plan.now) (M.terms map.now) }
     ensures bound { result ≤ 67108864 }
 {
     cost(plan.level() + 1, map.weight())
@@ -35,7 +35,7 @@ impl<P: Net, M: CoatMap> Survey<P, M> {
     // A survey of a plan and a map, with nothing taken.
     pub fn open(plan: P, map: M) -> Self
         ensures rule { Opened plan map result }
-        ensures life { Begins (plans P.Net.level P.Net.places) M.CoatMap.terms plan map result }
+        ensures life { Begins P.Net M.CoatMap plan map result }
     {
         plan.show_net();
         map.show_map();
@@ -50,8 +50,8 @@ impl<P: Net, M: CoatMap> Survey<P, M> {
 
     // Adds the coat at the next k places, and answers how many are taken then.
     pub fn take(&mut self, k: u32) -> Result<u32, TakeFault>
-        ensures rule { Takes (plans P.Net.level P.Net.places) M.CoatMap.terms k self.old self.new result }
-        ensures life { TakeLives (plans P.Net.level P.Net.places) M.CoatMap.terms k self.old self.new result }
+        ensures rule { Takes P.Net M.CoatMap k self.old self.new result }
+        ensures life { TakeLives P.Net M.CoatMap k self.old self.new result }
     {
         if k == 0 {
             return Err(TakeFault::Nothing);
@@ -68,9 +68,9 @@ impl<P: Net, M: CoatMap> Survey<P, M> {
 
     // The level, the count, the sum, and how far the sum can be off.
     pub fn report(&self) -> Report
-        ensures rule { Reports (plans P.Net.level P.Net.places) M.CoatMap.terms self.now result }
-        ensures life { ReportLives (plans P.Net.level P.Net.places) M.CoatMap.terms self.now result }
-        ensures truth { NearTruth (plans P.Net.level P.Net.places) M.CoatMap.terms self.now result }
+        ensures rule { Reports P.Net M.CoatMap self.now result }
+        ensures life { ReportLives P.Net M.CoatMap self.now result }
+        ensures truth { NearTruth P.Net M.CoatMap self.now result }
     {
         Report {
             level: self.plan.level(),
@@ -82,10 +82,10 @@ impl<P: Net, M: CoatMap> Survey<P, M> {
 
     // Sets the limit, unless the depths of the survey's own recipe cost more.
     pub fn set_limit(&mut self, limit: u64) -> Result<(), LimitFault>
-        ensures rule { Limits (plans P.Net.level P.Net.places) M.CoatMap.terms limit self.old self.new result }
-        ensures life { LimitLives (plans P.Net.level P.Net.places) M.CoatMap.terms limit self.old self.new result }
+        ensures rule { Limits P.Net M.CoatMap limit self.old self.new result }
+        ensures life { LimitLives P.Net M.CoatMap limit self.old self.new result }
     {
-        let cost = self.depth_cost();
+        let cost = depth_cost(&self.plan, &self.map);
         if cost > limit {
             return Err(LimitFault(cost));
         }
@@ -94,67 +94,42 @@ impl<P: Net, M: CoatMap> Survey<P, M> {
     }
 
     // The coat added over the next k places.
+    #[tactic(auto, using(crate::proofs::Takes::next_more))]
     fn next_coats(&self, k: u32) -> i64
-        requires { k ≤ unread (plans P.Net.level P.Net.places self.now.plan) self.now.count }
-        ensures value { result ≡ next_coats (plans P.Net.level P.Net.places) M.CoatMap.terms k self.now }
+        requires { k ≤ unread (plan_of P.Net self.now.plan) self.now.count }
+        ensures value { result ≡ next_coats P.Net M.CoatMap k self.now }
         ensures bound { unsigned_abs result ≤ 16384 * k }
     {
         self.plan.show_net();
+        // A chain's signed sum leaves its bound open.
         let mut sum = 0;
         for i in 0..k {
-            sum += i64::from(self.next_coat(i));
+            sum += i64::from(self.coat_at(self.count + i));
         }
         sum
     }
 
-    // The coat at the place number i of those that are left.
-    fn next_coat(&self, i: u32) -> i32
-        requires { i < unread (plans P.Net.level P.Net.places self.now.plan) self.now.count }
-        ensures value { result ≡ coated (M.CoatMap.terms self.now.map) (slice_index_or (P.Net.places self.now.plan) (self.now.count + i) (0, 0)) }
-        ensures bound { unsigned_abs result ≤ 16384 }
-    {
-        self.plan.show_net();
-        self.coat_at(self.count + i)
-    }
-
     // The coat at the place of an index, if there is one.
     fn coat_at(&self, i: u32) -> i32
-        ensures value { i < 2 ^ P.Net.level self.now.plan → result ≡ coated (M.CoatMap.terms self.now.map) (slice_index_or (P.Net.places self.now.plan) i (0, 0)) }
+        ensures value { i < 2 ^ P.level self.now.plan → result ≡ coated (M.terms self.now.map) (slice_index_or (P.places self.now.plan) i (0, 0)) }
         ensures bound { unsigned_abs result ≤ 16384 }
     {
-        match self.plan.place(i) {
-            Ok(place) => self.map.coat(place),
-            Err(_) => 0,
-        }
+        self.plan.place(i).map_or(0, |place| self.map.coat(place))
     }
 
-    fn depth_cost(&self) -> u64
-        ensures value { result ≡ depth_part (P.Net.level self.now.plan) (M.CoatMap.terms self.now.map) }
-        ensures bound { result ≤ 67108864 }
-    {
-        depth_cost(&self.plan, &self.map)
-    }
-
-    // How far the sum can be off.
+    // How far the sum can be off: what the depths cost, and the places that are not taken yet.
     fn radius(&self) -> u64
-        ensures { result ≡ radius_of (recipe (plans P.Net.level P.Net.places) M.CoatMap.terms self.now) self.now.count }
+        ensures { result ≡ radius_of (recipe P.Net M.CoatMap self.now) self.now.count }
     {
-        self.depth_cost() + self.rest_cost()
+        depth_cost(&self.plan, &self.map) + cost(self.left(), self.map.weight())
     }
 
     // How many places are not taken yet.
+    #[tactic(auto, using(std::proofs::Common::pow_mono))]
     fn left(&self) -> u32
-        ensures value { result ≡ unread (plans P.Net.level P.Net.places self.now.plan) self.now.count }
+        ensures value { result ≡ unread (plan_of P.Net self.now.plan) self.now.count }
         ensures bound { self.now.count + result ≤ 4096 }
     {
         (1u32 << self.plan.level()).saturating_sub(self.count)
-    }
-
-    // What the places cost that are not taken yet.
-    fn rest_cost(&self) -> u64
-        ensures value { result ≡ rest_part (P.Net.level self.now.plan) self.now.count (M.CoatMap.terms self.now.map) }
-        ensures bound { result ≤ 67108864 }
-    {
-        cost(self.left(), self.map.weight())
     }
 }

@@ -1,6 +1,6 @@
 // How a survey's calls refuse.
 
-#[derive(Clone, Copy)]
+#[derive(Clone, Copy, Debug, PartialEq, Eq)]
 pub enum TakeFault {
     // 21: no places are to be taken.
     Nothing,
@@ -9,9 +9,10 @@ pub enum TakeFault {
 }
 
 // 23: the depths of the survey's own recipe cost this much, which is above the limit.
-#[derive(Clone, Copy)]
+#[derive(Clone, Copy, Debug, PartialEq, Eq)]
 pub struct LimitFault(pub u64);
 
-// 24: the depths of the new recipe cost this much, which is above the limit.
-#[derive(Clone, Copy)]
+// 24: the depths of the new recipe cost this much, which is above the limit. A type of its own, since
+// it has a number of its own.
+#[derive(Clone, Copy, Debug, PartialEq, Eq)]
 pub struct CommitFault(pub u64);

@@ -1,6 +1,6 @@
 // A change with both its pages.
 ghost use Rattle.std.specs.Prelude.{◌≡◌};
-ghost use Rattle.survey.specs.Calls.{plans, Commits};
+ghost use Rattle.survey.specs.Calls.{Commits};
 ghost use Rattle.survey.specs.Lives.{AtFull, CommitLives, AbandonLives};
 
 use crate::calls::depth_cost;
@@ -12,8 +12,8 @@ use nets::Net;
 impl<P: Net + Drop, M: CoatMap + Drop> FullChange<P, M> {
     // A survey of the new recipe, or, if its depths cost more than the limit, the old one, entire.
     pub fn commit(self) -> Committed<P, M>
-        ensures rule { Commits (plans P.Net.level P.Net.places) M.CoatMap.terms self result }
-        ensures life { CommitLives (plans P.Net.level P.Net.places) M.CoatMap.terms self result }
+        ensures rule { Commits P.Net M.CoatMap self result }
+        ensures life { CommitLives P.Net M.CoatMap self result }
     {
         let cost = depth_cost(&self.plan, &self.map);
         let FullChange { old, plan, map } = self;
@@ -36,10 +36,10 @@ impl<P: Net + Drop, M: CoatMap + Drop> FullChange<P, M> {
         }
     }
 
-    // The old survey, entire.
+    // The old survey, entire. As in the half change: a trait for one line would be longer.
     pub fn abandon(self) -> Survey<P, M>
         ensures rule { result ≡ self.old }
-        ensures life { AbandonLives (plans P.Net.level P.Net.places) M.CoatMap.terms (AtFull (plans P.Net.level P.Net.places) M.CoatMap.terms self) result }
+        ensures life { AbandonLives P.Net M.CoatMap (AtFull P.Net M.CoatMap self) result }
     {
         self.old
     }

@@ -3,14 +3,14 @@ use crate::faults::{CommitFault, LimitFault, TakeFault};
 use crate::states::{FullChange, HalfChange, Report, Survey};
 
 // A survey, or the change that is made of it.
-#[derive(Drop)]
+#[derive(Debug, Drop)]
 pub enum Gauge<P, M> {
     Survey(Survey<P, M>),
     Half(HalfChange<P, M>),
     Full(FullChange<P, M>),
 }
 
-#[derive(Drop)]
+#[derive(Debug, Drop)]
 pub enum Call<P, M> {
     Take(u32),
     Report,
@@ -21,7 +21,7 @@ pub enum Call<P, M> {
     Abandon,
 }
 
-#[derive(Clone, Copy)]
+#[derive(Clone, Copy, Debug, PartialEq, Eq)]
 pub enum Answer {
     Taken(Result<u32, TakeFault>),
     Reported(Report),
@@ -33,7 +33,7 @@ pub enum Answer {
 }
 
 // The gauge after a call, and the answer, if the call was allowed.
-#[derive(Drop)]
+#[derive(Debug, Drop)]
 pub struct Step<P, M> {
     pub gauge: Gauge<P, M>,
     pub answer: Option<Answer>,

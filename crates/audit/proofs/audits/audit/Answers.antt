@@ -1,16 +1,10 @@
-use Rattle.std.proofs.Common.{Ok, inr}
-use Rattle.std.proofs.lemmas.Result.{err_from_is_err_and}
+use Rattle.std.proofs.Common.{rules, Ok}
 use Rattle.audit.specs.Audits.{Audited}
 use Rattle.audit.proofs.Accepts.{accepted}
 use Rattle.audit.proofs.audits.audit.Goals as goal
 
-pub returns-in_err-examined : goal.returns-in_err-examined
-returns-in_err-examined c =
-    let p = err_from_is_err_and c.from_residual.result c.from_residual.ensures.1 in
-    let cases : Audited c.args.places.now c.from_residual.result = rw (p.1, p.2) (inr (c.in-Some.m, c.in_err-examined.ensures)) in
-    record { cases = cases; accepts = accepted _ _ cases }
+pub returns-in_err-run-clause-accepts : goal.returns-in_err-run-clause-accepts
+returns-in_err-run-clause-accepts c = let cases : Audited c.args.places.now c.from_residual-in_err-run.result = search rules in accepted _ _ cases
 
-pub returns : goal.returns
-returns c =
-    let cases : Audited c.args.places.now (Ok c.in_ok-examined.examined) = (c.in-Some.m, c.in_ok-examined.ensures) in
-    record { cases = cases; accepts = accepted _ _ cases }
+pub returns-clause-accepts : goal.returns-clause-accepts
+returns-clause-accepts c = let cases : Audited c.args.places.now (Ok c.in_ok-run.field-0) = search rules in accepted _ _ cases

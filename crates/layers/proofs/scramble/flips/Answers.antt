@@ -1,20 +1,24 @@
-use Rattle.std.proofs.Common.{◌≡◌, ℕ, ◌+◌, ◌^◌, ◌<◌, ap, ◌∙◌, add-one, arith}
-use Rattle.nets.specs.Digits.{digit, word}
-use Rattle.nets.specs.Places.{top}
-use Rattle.nets.proofs.Words.{word_under, digit_below}
+use Rattle.std.proofs.Common.{rules, ◌≡◌, ℕ, ◌+◌, ◌*◌, ◌%◌, ◌^◌, fold, refl, ◌∙◌, arith}
+use Rattle.std.specs.List.{range_with_len}
+use Rattle.std.proofs.lemmas.Iterator.{YieldsList-from_range}
+use Rattle.std.proofs.lemmas.Iterator.Consumers.{fold_from_yields_List}
+use Rattle.nets.specs.Digits.{word}
+use Rattle.nets.proofs.Words.{word_below}
 use Rattle.layers.specs.Layers.{flip}
+use Rattle.layers.proofs.Prefixes.{flip_bits}
 use Rattle.layers.proofs.scramble.flips.Goals as goal
 
-small : (w x k : ℕ) → k < 6 → word k (flip w x) < 2 ^ 6
-small w x k = word_under k 6 (flip w x) (λ j _. digit_below w (2 ^ j + top j x))
+module _ (w x : ℕ) where
+  abbrev more : (n k : ℕ) → ℕ
+  more n k = n * 2 % 2 ^ 16 + flip w x k
 
-pub overflow_mul-flips : goal.overflow_mul-flips
-overflow_mul-flips c = omega (arith, small c.args.word c.args.x c.loop-k.k (omega arith))
+  -- six digits are a number below 2^16
+  six : fold more 0 (range_with_len 0 6) ≡ word 6 (flip w x)
+  six = omega arith
 
-pub overflow_add-flips : goal.overflow_add-flips
-overflow_add-flips c = omega (arith, small c.args.word c.args.x c.loop-k.k (omega arith))
-
-pub loop-k-preserved : goal.loop-k-preserved
-loop-k-preserved c =
-    let d : c.digit_of.result ≡ flip c.args.word c.args.x c.loop-k.k = c.digit_of.ensures ∙ ap (digit c.args.word) c.node_above.ensures in
-    rw add-one (omega arith)
+pub returns : goal.returns
+returns c =
+    let w : ℕ = c.args.word in
+    let x : ℕ = c.args.x in
+    let value : c.fold.result ≡ word 6 (flip w x) = fold_from_yields_List _ (more w x) 0 _ c.fold.ensures.ran (YieldsList-from_range 0 6 6 (cc) refl) (λ n k r q call. search rules) ∙ six w x in
+    record { value = value; bound = rw value (word_below 6 (flip w x) (flip_bits w x 6)) }
