@@ -1,0 +1,105 @@
+// Why a line makes no call.
+ghost use Rattle.std.specs.Prelude.{◌≡◌, Some};
+ghost use Rattle.gauge.specs.declared.faults.Unreadable.TheVariants as of_line;
+ghost use Rattle.gauge.specs.Texts.{fault_text};
+
+use audit::{AuditFault, LoadFault, NotNet};
+use coats::MapFault;
+use nets::LevelFault;
+use std::alloc::{AllocError, AllocFailed};
+use std::error::Error;
+use std::fmt;
+
+#[derive(Clone, Copy, Debug, PartialEq, Eq)]
+pub enum Unreadable {
+    TooLong,
+    Unknown,
+    NotOpen,
+    Open,
+    Words,
+    PlanKind,
+    MapKind,
+    // 4.
+    Level(u32),
+    // 12 or 13 of a points page.
+    Points(AuditFault),
+    // 7, 8 or 9 of a map page, or want of memory.
+    Map(MapFault),
+    // Want of memory elsewhere. It ends the program and is told in no line.
+    Memory,
+}
+
+// Written by hand, since the text is proved.
+impl fmt::Display for Unreadable {
+    ghost output = { λ e. Some (fault_text e) };
+
+    fn fmt<W: fmt::Write>(&self, f: &mut fmt::Formatter<W>) -> fmt::Result {
+        match self {
+            Unreadable::TooLong => write!(f, "more than 65535 bytes"),
+            Unreadable::Unknown => write!(f, "unknown command"),
+            Unreadable::NotOpen => write!(f, "no recipe is open"),
+            Unreadable::Open => write!(f, "a recipe is open"),
+            Unreadable::Words => write!(f, "cannot read its words"),
+            Unreadable::PlanKind => write!(f, "another kind of plan"),
+            Unreadable::MapKind => write!(f, "another kind of map"),
+            Unreadable::Level(level) => write!(f, "refused 4 level {level}"),
+            Unreadable::Points(AuditFault::Length(size)) => write!(f, "refused 12 place {size}"),
+            Unreadable::Points(AuditFault::Empty(NotNet { depth, interval })) => {
+                write!(f, "refused 13 depth {depth} interval {interval}")
+            }
+            Unreadable::Map(MapFault::Count) => write!(f, "refused 7"),
+            Unreadable::Map(MapFault::Row(row)) => write!(f, "refused 8 row {row}"),
+            Unreadable::Map(MapFault::Weight) => write!(f, "refused 9"),
+            Unreadable::Map(MapFault::Memory) | Unreadable::Memory => write!(f, "out of memory"),
+        }
+    }
+}
+
+impl Error for Unreadable {}
+
+impl Unreadable {
+    // Whether it ends the program.
+    pub fn is_memory(self) -> bool {
+        matches!(self, Unreadable::Map(MapFault::Memory) | Unreadable::Memory)
+    }
+}
+
+impl From<AllocError> for Unreadable {
+    ghost from_gives = { λ _ r. r ≡ of_line.Memory };
+
+    fn from(_e: AllocError) -> Unreadable {
+        Unreadable::Memory
+    }
+}
+
+impl<T: Drop> From<AllocFailed<T>> for Unreadable {
+    ghost from_gives = { λ _ r. r ≡ of_line.Memory };
+
+    fn from(_e: AllocFailed<T>) -> Unreadable {
+        Unreadable::Memory
+    }
+}
+
+impl From<LevelFault> for Unreadable {
+    fn from(e: LevelFault) -> Unreadable {
+        let LevelFault::TooHigh(level) = e;
+        Unreadable::Level(level)
+    }
+}
+
+impl From<LoadFault> for Unreadable {
+    fn from(e: LoadFault) -> Unreadable {
+        match e {
+            LoadFault::Audit(fault) => Unreadable::Points(fault),
+            LoadFault::Memory => Unreadable::Memory,
+        }
+    }
+}
+
+impl From<MapFault> for Unreadable {
+    ghost from_gives = { λ e r. r ≡ of_line.Map e };
+
+    fn from(e: MapFault) -> Unreadable {
+        Unreadable::Map(e)
+    }
+}

@@ -1,0 +1,35 @@
+// gauge: runs a survey's commands, read from standard input.
+#![tactic(auto)]
+
+mod answers;
+mod commands;
+mod faults;
+mod lines;
+mod map_pages;
+mod numbers;
+mod plan_pages;
+mod sessions;
+
+use lines::{Cap, MOST_BYTES, MOST_LINES, cap_of};
+use sessions::replies;
+use std::io::Read;
+
+fn main(rt: HostRuntime) -> anyhow::Result<()> {
+    run(&rt)
+}
+
+// Reads at most one byte more than the cap, so that it ends on any input.
+fn run(rt: &HostRuntime) -> anyhow::Result<()> {
+    let mut bytes = Vec::new(rt.alloc());
+    let mut input = rt.stdin().take(MOST_BYTES as u64 + 1);
+    input.read_to_end(&mut bytes)?;
+    for reply in &replies(rt.alloc(), &bytes)? {
+        println!(rt; "{reply}")?;
+    }
+    match cap_of(&bytes) {
+        Some(Cap::Bytes) => println!(rt; "input: more than {MOST_BYTES} bytes")?,
+        Some(Cap::Lines) => println!(rt; "input: more than {MOST_LINES} lines")?,
+        None => {}
+    }
+    Ok(())
+}
