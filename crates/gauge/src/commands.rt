@@ -27,7 +27,7 @@ pub struct Kinds {
 }
 
 impl Verb {
-    pub fn read(word: &str) -> Result<Verb, Unreadable> {
+    pub(crate) fn read(word: &str) -> Result<Verb, Unreadable> {
         match word {
             "open" => Ok(Verb::Open),
             "map" => Ok(Verb::Map),
@@ -43,7 +43,7 @@ impl Verb {
 }
 
 // The call that a verb and the words after it make, once a recipe is open.
-pub fn read_call(
+pub(crate) fn read_call(
     heap: Global,
     kinds: Kinds,
     verb: Verb,

@@ -59,7 +59,7 @@ impl Error for Unreadable {}
 
 impl Unreadable {
     // Whether it ends the program.
-    pub fn is_memory(self) -> bool {
+    pub(crate) fn is_memory(self) -> bool {
         matches!(self, Unreadable::Map(MapFault::Memory) | Unreadable::Memory)
     }
 }

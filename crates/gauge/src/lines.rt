@@ -29,7 +29,7 @@ pub enum Cap {
     Lines,
 }
 
-pub fn line_of(bytes: &[u8]) -> Line<'_> {
+pub(crate) fn line_of(bytes: &[u8]) -> Line<'_> {
     if bytes.is_empty() || bytes.starts_with(b"#") {
         Line::Passed
     } else if bytes.len() > LONGEST {
@@ -43,7 +43,7 @@ pub fn line_of(bytes: &[u8]) -> Line<'_> {
 }
 
 // The lines that end within the most bytes, if there are more bytes; else all.
-pub fn whole_lines(input: &[u8]) -> &[u8]
+pub(crate) fn whole_lines(input: &[u8]) -> &[u8]
     ensures { length result.now ≤ MOST_BYTES }
 {
     match input.split_at_checked(MOST_BYTES) {
@@ -62,7 +62,7 @@ fn up_to_end(bytes: &[u8]) -> &[u8]
     }
 }
 
-pub fn cap_of(input: &[u8]) -> Option<Cap>
+pub(crate) fn cap_of(input: &[u8]) -> Option<Cap>
     ensures { (result ≡ Some Cap.Bytes) ↔ (MOST_BYTES < length input.now) }
 {
     if input.len() > MOST_BYTES {

@@ -35,7 +35,11 @@ pub struct MapSheet {
 }
 
 // The map that words say, of the given kind or, if none is given, of any.
-pub fn read_map(heap: Global, words: &[&str], kind: Option<MapKind>) -> Result<MapSheet, Unreadable>
+pub(crate) fn read_map(
+    heap: Global,
+    words: &[&str],
+    kind: Option<MapKind>,
+) -> Result<MapSheet, Unreadable>
     ensures { IfOk result (λ p. (k : MapKind) → kind ≡ Some k → p.kind ≡ k) }
 {
     let rows = read_rows(heap, words)?;

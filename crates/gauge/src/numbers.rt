@@ -3,7 +3,7 @@ use crate::faults::Unreadable;
 use std::str::FromStr;
 
 // A decimal number. A plus sign before it is not read.
-pub fn number<N: FromStr>(word: &str) -> Result<N, Unreadable>
+pub(crate) fn number<N: FromStr>(word: &str) -> Result<N, Unreadable>
 where
     N::Err: Drop,
 {

@@ -45,7 +45,7 @@ pub struct PlanPage {
 }
 
 // The plan that words say, of the given kind or, if none is given, of any.
-pub fn read_plan(
+pub(crate) fn read_plan(
     heap: Global,
     words: &[&str],
     kind: Option<PlanKind>,

@@ -27,7 +27,7 @@ struct Session {
 }
 
 // What is answered to the lines of an input.
-pub fn replies(heap: Global, input: &[u8]) -> Result<Vec<Reply>, AllocError> {
+pub(crate) fn replies(heap: Global, input: &[u8]) -> Result<Vec<Reply>, AllocError> {
     let mut session = Session::new(heap);
     let lines = whole_lines(input).split(|byte| *byte == b'\n');
     for (before, line) in lines.take(MOST_LINES).enumerate() {
