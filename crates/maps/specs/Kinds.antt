@@ -3,10 +3,17 @@ use Rattle.std.specs.Prelude.{List, vec_items}
 use Rattle.coats.specs.declared.term.Term.{Term}
 use Rattle.maps.specs.declared.map.Map.{Map}
 use Rattle.maps.specs.declared.map.Map.TheVariants.{Boxes, Steps, Cells}
+use Rattle.maps.specs.declared.map.MapKind.{MapKind}
+use Rattle.maps.specs.declared.map.MapKind.TheVariants as kind
 use Rattle.boxes.specs.Rows.{boxes_terms}
 use Rattle.cells.specs.Cells.{cells_terms}
 use Rattle.cells.specs.Tables.{held}
 use Rattle.steps.specs.Rows.{steps_terms}
+
+abbrev pub kind_of : Map → MapKind
+kind_of (Boxes m) = kind.Boxes
+kind_of (Steps m) = kind.Steps
+kind_of (Cells m) = kind.Cells
 
 abbrev pub terms_of : Map → List Term
 terms_of (Boxes m) = boxes_terms (vec_items m.rows)

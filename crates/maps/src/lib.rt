@@ -3,4 +3,4 @@
 
 pub mod map;
 
-pub use map::Map;
+pub use map::{Map, MapKind};

@@ -1,5 +1,6 @@
 // All kinds of map as one type, which is a map too.
-ghost use Rattle.maps.specs.Kinds.{terms_of};
+ghost use Rattle.std.specs.Prelude.{◌≡◌};
+ghost use Rattle.maps.specs.Kinds.{kind_of, terms_of};
 
 use boxes::Boxes;
 use cells::Cells;
@@ -12,6 +13,25 @@ pub enum Map {
     Boxes(Boxes),
     Steps(Steps),
     Cells(Cells),
+}
+
+#[derive(Clone, Copy, Debug, PartialEq, Eq)]
+pub enum MapKind {
+    Boxes,
+    Steps,
+    Cells,
+}
+
+impl Map {
+    pub fn kind(&self) -> MapKind
+        ensures { result ≡ kind_of self.now }
+    {
+        match self {
+            Map::Boxes(_) => MapKind::Boxes,
+            Map::Steps(_) => MapKind::Steps,
+            Map::Cells(_) => MapKind::Cells,
+        }
+    }
 }
 
 // A match in each call, since no function may make a dyn value and hand it out.

@@ -4,6 +4,13 @@ use Rattle.nets.specs.Places.{Place}
 use Rattle.sequences.specs.Sequences.{hammersley_net, sobol_net}
 use Rattle.plans.specs.declared.plan.Plan.{Plan}
 use Rattle.plans.specs.declared.plan.Plan.TheVariants.{Hammersley, Sobol, Points}
+use Rattle.plans.specs.declared.plan.PlanKind.{PlanKind}
+use Rattle.plans.specs.declared.plan.PlanKind.TheVariants as kind
+
+abbrev pub kind_of : Plan → PlanKind
+kind_of (Hammersley p) = kind.Hammersley
+kind_of (Sobol p) = kind.Sobol
+kind_of (Points p) = kind.Points
 
 abbrev pub level_of : Plan → ℕ
 level_of (Hammersley p) = p.level.m

@@ -3,4 +3,4 @@
 
 pub mod plan;
 
-pub use plan::Plan;
+pub use plan::{Plan, PlanKind};

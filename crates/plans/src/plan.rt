@@ -1,5 +1,6 @@
 // All kinds of plan as one type, which is a plan too.
-ghost use Rattle.plans.specs.Plans.{level_of, places_of};
+ghost use Rattle.std.specs.Prelude.{◌≡◌};
+ghost use Rattle.plans.specs.Plans.{kind_of, level_of, places_of};
 
 use audit::PointList;
 use nets::{Net, Place, PlaceFault};
@@ -10,6 +11,25 @@ pub enum Plan {
     Hammersley(Hammersley),
     Sobol(Sobol),
     Points(PointList),
+}
+
+#[derive(Clone, Copy, Debug, PartialEq, Eq)]
+pub enum PlanKind {
+    Hammersley,
+    Sobol,
+    Points,
+}
+
+impl Plan {
+    pub fn kind(&self) -> PlanKind
+        ensures { result ≡ kind_of self.now }
+    {
+        match self {
+            Plan::Hammersley(_) => PlanKind::Hammersley,
+            Plan::Sobol(_) => PlanKind::Sobol,
+            Plan::Points(_) => PlanKind::Points,
+        }
+    }
 }
 
 // A match in each call, since no function may make a dyn value and hand it out.
