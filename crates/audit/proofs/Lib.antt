@@ -1,2 +1,2 @@
 mod Flags
-mod Accepts
+pub mod Accepts

@@ -1,7 +1,8 @@
-// The audit and loading.
-use audit::{AuditFault, NotNet, PointList, audit};
+// The audit of lists and of plans, and loading.
+use audit::{AuditFault, NotNet, PointList, audit, audit_plan};
+use layers::{Scramble, Swap};
 use nets::{Net, PlaceFault};
-use sequences::Hammersley;
+use sequences::{Hammersley, Sobol};
 use std::test::Fail;
 
 fn not_net(depth: u32, interval: u32) -> AuditFault {
@@ -65,6 +66,16 @@ fn loading(rt: HostRuntime) -> Result<(), Fail> {
     assert_eq!(rt; list.level(), 1);
     assert_eq!(rt; list.place(0), Ok((1, 2)));
     assert_eq!(rt; list.place(1), Ok((32768, 32771)));
+    Ok(())
+}
+
+// Plans of the lowest level, of a middle one under layers, and of the highest.
+#[test]
+fn whole_plans(rt: HostRuntime) -> Result<(), Fail> {
+    assert_eq!(rt; audit_plan(&Hammersley::new(0)?), Ok(1));
+    let scrambled = Scramble::new(Sobol::new(3)?, 0x0123_4567_89AB_CDEF, 0xFEDC_BA98_7654_3210);
+    assert_eq!(rt; audit_plan(&Swap::new(scrambled)), Ok(4 * 8));
+    assert_eq!(rt; audit_plan(&Sobol::new(12)?), Ok(13 * 4096));
     Ok(())
 }
 
