@@ -6,4 +6,4 @@ pub mod measured;
 mod writing;
 
 pub use faults::TextFault;
-pub use measured::Measured;
+pub use measured::{Measured, measure};

@@ -1,9 +1,14 @@
 // What is measured of a whole panel.
 ghost use Rattle.std.specs.Prelude.{Some};
+ghost use Rattle.survey.specs.Calls.{plan_of};
+ghost use Rattle.reports.specs.Measures.{Measures};
 ghost use Rattle.reports.specs.Texts.{measured_text};
 
+use audit::audit_plan;
+use coats::CoatMap;
+use nets::{Level, Net};
 use std::fmt;
-use survey::Report;
+use survey::{Report, Survey};
 
 // What a survey of a whole panel reports: every place taken.
 #[derive(Clone, Copy, Debug, PartialEq, Eq)]
@@ -14,6 +19,22 @@ pub struct Measured {
     pub report: Report,
     // How many intervals the audit of the plan's places examined.
     pub audit: u32,
+}
+
+// Opens a survey, takes every place, and reports; and audits the plan's places.
+#[tactic(auto, using(crate::proofs::Wholes::wholes))]
+pub fn measure<P: Net + Drop, M: CoatMap + Drop>(plan: P, map: M) -> Measured
+    ensures { Measures (record { plan = plan_of P.Net plan; map = M.terms map }) result }
+{
+    let points = Level::try_from(plan.level()).unwrap().places();
+    let audit = audit_plan(&plan).unwrap();
+    let mut survey = Survey::open(plan, map);
+    survey.take(points).unwrap();
+    Measured {
+        points,
+        report: survey.report(),
+        audit,
+    }
 }
 
 // Written by hand, since the text is proved.
