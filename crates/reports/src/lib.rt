@@ -3,7 +3,10 @@
 
 pub mod faults;
 pub mod measured;
+pub mod panels;
+pub mod texts;
 mod writing;
 
 pub use faults::TextFault;
-pub use measured::{Measured, measure};
+pub use measured::Measured;
+pub use panels::measure;
