@@ -1,9 +1,10 @@
-// Surveys, their changes, and replayed logs.
+// Surveys, their changes, replayed logs, and whole panels.
 use boxes::{BoxRow, Boxes};
 use cells::Cells;
 use coats::MapFault;
 use maps::Map;
 use plans::Plan;
+use reports::measure;
 use sequences::Hammersley;
 use std::alloc::Global;
 use std::test::Fail;
@@ -120,5 +121,20 @@ fn largest_numbers(rt: HostRuntime) -> Result<(), Fail> {
     assert_eq!(rt; survey.set_limit(212992), Ok(()));
     assert_eq!(rt; survey.take(4096), Ok(4096));
     assert_eq!(rt; survey.report(), report(12, 4096, -67108864, 212992));
+    Ok(())
+}
+
+#[test]
+fn whole_panels(rt: HostRuntime) -> Result<(), Fail> {
+    let heap = rt.alloc();
+    let measured = measure(Hammersley::new(2)?, quarter(heap)?);
+    let text = "level 2\npoints 4\ntaken 4\nsum 3\nradius 9\naudit 12\n";
+    assert_eq!(rt; measured.to_string(heap)?.as_str(), text);
+
+    let mut map = Cells::new();
+    map.replace(&[[-16384; 8]; 8])?;
+    let measured = measure(Plan::Hammersley(Hammersley::new(12)?), Map::Cells(map));
+    let text = "level 12\npoints 4096\ntaken 4096\nsum -67108864\nradius 212992\naudit 53248\n";
+    assert_eq!(rt; measured.to_string(heap)?.as_str(), text);
     Ok(())
 }
