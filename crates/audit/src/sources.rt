@@ -1,8 +1,9 @@
 // Where the audit finds the places of a list.
 ghost use Rattle.std.specs.Prelude.{◌≡◌, ◌+◌, ◌*◌, ◌<◌, ◌≤◌, List, length, slice_index_or};
-ghost use Rattle.nets.specs.Bytes.{le, place_at as place_of, laid};
+ghost use Rattle.nets.specs.Bytes.{place_at as place_of, laid};
 ghost use Rattle.nets.specs.Places.{Place as Spot};
 
+use little_endian::u16_at;
 use nets::Place;
 
 pub(crate) trait Source {
@@ -41,12 +42,4 @@ pub(crate) fn place_at(bytes: &[u8], i: usize) -> Place
     let x = u16_at(bytes, 4 * i);
     let y = u16_at(bytes, 4 * i + 2);
     (x, y)
-}
-
-// The number at index i, lowest byte first.
-fn u16_at(bytes: &[u8], i: usize) -> u16
-    requires { i + 2 ≤ length bytes.now }
-    ensures { result ≡ le 2 bytes.now i }
-{
-    u16::from_le_bytes([bytes[i], bytes[i + 1]])
 }

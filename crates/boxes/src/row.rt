@@ -9,7 +9,7 @@ use coats::{Bounded, Term, is_bound};
 use nets::Place;
 
 // The weight w on the places with x0 <= x < x1 and y0 <= y < y1.
-#[derive(Clone, Copy, Debug, PartialEq, Eq)]
+#[derive(Clone, Copy, Debug, Default, PartialEq, Eq)]
 pub struct BoxRow {
     pub x0: u32,
     pub x1: u32,

@@ -5,7 +5,7 @@ ghost use Rattle.steps.specs.Rows.{StepBounds, rise};
 use coats::{Bounded, is_bound};
 
 // A value on the coordinates below a bound.
-#[derive(Clone, Copy, Debug, PartialEq, Eq)]
+#[derive(Clone, Copy, Debug, Default, PartialEq, Eq)]
 pub struct Step {
     pub value: i16,
     pub bound: u32,

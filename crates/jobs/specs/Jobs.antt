@@ -1,0 +1,38 @@
+-- What reading a job answers, and what the recipe then is.
+use Rattle.std.specs.Prelude.{◌≡◌, ℕ, ◌≤◌, false, List, [], ◌∷◌, length, Ok, Err, Result, ⊤}
+use Rattle.nets.specs.Refusals.{no_memory}
+use Rattle.maps.specs.Kinds.{terms_of}
+use Rattle.plans.specs.Plans.{level_of, places_of}
+use Rattle.jobs.specs.Checks.{Refused, checks}
+use Rattle.jobs.specs.Layout.{InPlace, section, PlanLaid, LayersLaid, MapLaid}
+use Rattle.jobs.specs.Refusals.{job_told}
+use Rattle.jobs.specs.declared.faults.JobFault.{JobFault}
+use Rattle.jobs.specs.declared.recipe.Recipe.{Recipe}
+
+-- a job, and the recipe that it lays down
+pub record IsJob (job : List ℕ) (r : Recipe) : Type 0 where
+  pub long : 12 ≤ length job
+  pub short : length job ≤ 65535
+  pub plan_in_place : InPlace job 0
+  pub layers_in_place : InPlace job 1
+  pub map_in_place : InPlace job 2
+  pub plan : PlanLaid (section job 0) r.plan
+  pub layers : LayersLaid (section job 1) r.layers
+  pub map : MapLaid (section job 2) r.map
+
+-- a job is read into the recipe; any other is refused, and leaves it as it was. Memory is wanting for no job that would be
+-- refused by a check
+abbrev pub Reads : (job : List ℕ) (old new : Recipe) → {X : Type 0} → Result X JobFault → Type 0
+Reads job old new (Ok _) = IsJob job new
+Reads job old new (Err e) = Refused (checks job) (job_told e) × (new ≡ old)
+
+-- it is read, unless memory is wanting
+abbrev pub Accepts : {X : Type 0} → Result X JobFault → Type 0
+Accepts (Ok _) = ⊤
+Accepts (Err e) = job_told e ≡ no_memory
+
+-- as a recipe begins: level 0, no layer that moves a place, and no boxes
+pub record Begins (r : Recipe) : Type 0 where
+  pub plan : (level_of r.plan ≡ 0) × (places_of r.plan ≡ (0, 0) ∷ [])
+  pub layers : r.layers ≡ record { s = 0; t = 0; x_word = 0; y_word = 0; swap = false }
+  pub map : terms_of r.map ≡ []

@@ -1,0 +1,58 @@
+// A recipe, as a job file carries it.
+ghost use Rattle.std.specs.Prelude.{MatchResult};
+
+use crate::faults::JobFault;
+use crate::file::JobFile;
+use crate::layer_numbers::LayerNumbers;
+use boxes::Boxes;
+use maps::Map;
+use plans::Plan;
+use sequences::Hammersley;
+use std::alloc::Global;
+
+// A plan, the numbers of the layers on it, and a map.
+#[derive(Debug, Drop)]
+pub struct Recipe {
+    pub plan: Plan,
+    pub layers: LayerNumbers,
+    pub map: Map,
+}
+
+impl Recipe {
+    ghost use Rattle.jobs.specs.Checks.{Refused, checks};
+    ghost use Rattle.jobs.specs.Jobs.{Accepts, Begins, IsJob, Reads};
+    ghost use Rattle.jobs.specs.Refusals.{job_told};
+    ghost use Rattle.jobs.specs.declared.recipe.Recipe.{Recipe as JobRecipe};
+
+    // One place, no layer that moves it, and no coat.
+    pub fn new(heap: Global) -> Self
+        ensures { Begins result }
+    {
+        Recipe {
+            plan: Plan::Hammersley(Hammersley::new(0).unwrap()),
+            layers: LayerNumbers::default(),
+            map: Map::Boxes(Boxes::new(heap)),
+        }
+    }
+
+    // Replaces the recipe by the one that a job lays down.
+    pub fn read(&mut self, heap: Global, job: &[u8]) -> Result<(), JobFault>
+        ensures reads { Reads job.now self.old self.new result }
+        ensures accepts { (r : JobRecipe) → IsJob job.now r → Accepts result }
+    {
+        *self = Recipe::of(heap, job)?;
+        Ok(())
+    }
+
+    #[tactic(auto, using(crate::proofs::Passed::map_refused))]
+    fn of(heap: Global, job: &[u8]) -> Result<Recipe, JobFault>
+        ensures { MatchResult result (IsJob job.now) (λ e. Refused (checks job.now) (job_told e)) }
+    {
+        let file = JobFile::open(job)?;
+        let plan = file.plan()?;
+        let layers = file.layers()?;
+        let map = file.map(heap)?;
+        let plan = plan.plan(heap)?;
+        Ok(Recipe { plan, layers, map })
+    }
+}
