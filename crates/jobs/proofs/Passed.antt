@@ -23,10 +23,12 @@ layers_pass start bytes l h = grind arith
 
 -- a job whose map is refused
 pub map_refused : (job : List ℕ) (t : Told) → Passes (directory_checks job) → Passes (plan_checks (offset job 0) (section job 0)) → Passes (layer_checks (offset job 1) (section job 1)) → Refused (map_checks (offset job 2) (section job 2)) t → Refused (checks job) t
+unfolding checks
 map_refused job t d p l (inl f) = inl (inr (d.0, inr (d.1.0, inr (d.1.1.0, inr (d.1.1.1.0, inr (p.0, inr (p.1.0, inr (p.1.1.0, inr (p.1.1.1.0, inr (l.0, f))))))))))
 map_refused job t d p l (inr (m, e)) = inr ((d.0, (d.1.0, (d.1.1.0, (d.1.1.1.0, (p.0, (p.1.0, (p.1.1.0, (p.1.1.1.0, (l.0, m))))))))), e)
 
 pub job_passes : (job : List ℕ) (r : Recipe) → IsJob job r → Passes (checks job)
+unfolding checks
 job_passes job r h =
     let p = plan_passes (offset job 0) _ _ h.plan in
     let l = layers_pass (offset job 1) _ _ h.layers in

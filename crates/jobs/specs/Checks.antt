@@ -90,7 +90,7 @@ map_checks start bytes =
 abbrev pub RowsRefused : MapKind → (bytes : List ℕ) → MapFault → Type 0
 RowsRefused k bytes e = (row_of e ≤ 32) × ((start : ℕ) → Refused (map_checks start bytes) (rows_told start k e))
 
-abbrev pub checks : (job : List ℕ) → List Check
+unfoldable pub checks : (job : List ℕ) → List Check
 checks job =
     directory_checks job
     ++ plan_checks (offset job 0) (section job 0)

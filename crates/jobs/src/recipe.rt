@@ -44,7 +44,7 @@ impl Recipe {
         Ok(())
     }
 
-    #[tactic(auto, using(crate::proofs::Passed::map_refused))]
+    #[tactic(auto, using(crate::proofs::Passed::map_refused), unfolding(crate::specs::Checks::checks))]
     fn of(heap: Global, job: &[u8]) -> Result<Recipe, JobFault>
         ensures { MatchResult result (IsJob job.now) (λ e. Refused (checks job.now) (job_told e)) }
     {
