@@ -1,5 +1,5 @@
 -- The rows of a map section.
-use Rattle.std.proofs.Common.{◌≡◌, ℕ, ◌+◌, ◌*◌, ◌<◌, ◌≤◌, List, [], ◌∷◌, ◌++◌, map, length, length-append, get_or, set, sym, ap, subst, ◌∙◌, Result, Err, arith}
+use Rattle.std.proofs.Common.{◌≡◌, ℕ, ◌+◌, ◌*◌, ◌<◌, ◌≤◌, List, [], ◌∷◌, ◌++◌, map, length, length-append, get_or, set, sym, subst, ◌∙◌, Result, Err, arith}
 use Rattle.std.specs.List.{All, range_with_len}
 use Rattle.std.specs.Prelude.{ℤ, pos}
 use Rattle.little_endian.specs.Signed.{le_signed}
@@ -23,9 +23,9 @@ use Rattle.maps.specs.declared.map.Map.{Map}
 use Rattle.jobs.specs.Checks.{First, Passes, RowsRefused, map_checks}
 use Rattle.jobs.specs.Layout.{MapLaid, Shaped, BoxShape, StepShape, CellShape, boxes, x_steps, y_steps, cell_row, cells}
 
--- one row more
+-- one row more is gathered
 pub gathered : {R : Type 0} (f : ℕ → R) (a n j : ℕ) (old new : List R) (row : R) → new ≡ old ++ row ∷ [] → old ≡ map f (range_with_len a n) → a + n ≡ j → row ≡ f j → new ≡ map f (range_with_len a (n + 1))
-gathered f a n j old new row pushed held at is = pushed ∙ ap (λ rows. rows ++ row ∷ []) held ∙ ap (λ r. map f (range_with_len a n) ++ r ∷ []) is ∙ sym (map-range_with_len_more f a n j at)
+gathered f a n j old new row pushed held at is = let more = map-range_with_len_more f a n j at in cc
 
 pub ruleset gathers = (gathered, length-map-range_with_len)
 
@@ -58,6 +58,7 @@ pub ruleset writes = (to_z-of_z, written_none, written_more, written_row, writte
 not_all : {R : Type 0} (Bounds : R → Type 0) (rows : List R) (i : ℕ) → FirstOut Bounds rows i → All Bounds rows → ⊥
 not_all Bounds rows i first all = first.out (λ d. All-get_or Bounds rows i d first.here all)
 
+-- a fault of rows is the first of the section's checks that is not passed, or want of memory after all of them
 pub boxes_refused : {X : Type 0} (bytes : List ℕ) (rows : List BoxRow) (old new : Boxes) (r : Result X MapFault) (e : MapFault) → BoxShape bytes → rows ≡ boxes bytes → BoxesReplaced rows old new r → r ≡ Err e → RowsRefused of_kind.Boxes bytes e
 unfolding map_checks
 boxes_refused bytes rows old new r e s listed replaced is = (grind (arith, length-map-range_with_len, length-append), λ start. grind (arith, not_all, length-map-range_with_len))

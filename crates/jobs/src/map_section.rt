@@ -4,7 +4,7 @@ ghost use Rattle.std.specs.List.{range_with_len};
 ghost use Rattle.cells.specs.Tables.{held};
 ghost use Rattle.maps.specs.declared.map.MapKind.TheVariants as of_kind;
 ghost use Rattle.jobs.specs.Checks.{Passes, Refused, RowsRefused, map_checks};
-ghost use Rattle.jobs.specs.Layout.{MapLaid, BoxesLaid, StepsLaid, CellsLaid, Shape, Shaped, BoxShape, StepShape, CellShape, box_at as box_of, boxes as boxes_of, step_at as step_of, cell_row as cell_row_of, cells as cells_of};
+ghost use Rattle.jobs.specs.Layout.{MapLaid, BoxesLaid, StepsLaid, CellsLaid, Shape, Shaped, BoxShape, StepShape, CellShape, box_at as box_of, boxes as boxes_of, step_at as step_of, x_steps, y_steps, cell_row as cell_row_of, cells as cells_of};
 ghost use Rattle.jobs.specs.Refusals.{map_section_told};
 ghost use Rattle.jobs.specs.Rows.{row_of};
 
@@ -48,18 +48,18 @@ pub(crate) fn read_map(heap: Global, start: u16, bytes: &[u8]) -> Result<Map, Ma
 fn kind_of(bytes: &[u8]) -> Option<MapKind>
     ensures { MatchOption result (Shaped bytes.now → ⊥) (λ k. Shape k bytes.now) }
 {
-    let kind = byte_at(bytes, 0);
     let first = usize::from(byte_at(bytes, 1));
     let second = usize::from(byte_at(bytes, 2));
-    match kind {
-        0 if first <= MOST_BOXES && bytes.len() == 2 + BOX_SIZE * first => Some(MapKind::Boxes),
-        1
-            if first <= MOST_STEPS
-                && second <= MOST_STEPS
-                && bytes.len() == 3 + STEP_SIZE * (first + second) => { Some(MapKind::Steps) }
-        2 if bytes.len() == CELLS_SIZE => Some(MapKind::Cells),
-        _ => None,
-    }
+    let (kind, few, size) = match byte_at(bytes, 0) {
+        0 => (MapKind::Boxes, first <= MOST_BOXES, 2 + BOX_SIZE * first),
+        1 => {
+            let few = first <= MOST_STEPS && second <= MOST_STEPS;
+            (MapKind::Steps, few, 3 + STEP_SIZE * (first + second))
+        }
+        2 => (MapKind::Cells, true, CELLS_SIZE),
+        _ => return None,
+    };
+    (few && bytes.len() == size).then_some(kind)
 }
 
 // Rows are gathered without asking for memory, so that it can be wanting only once they have passed
@@ -117,11 +117,26 @@ fn read_steps(heap: Global, bytes: &[u8]) -> Result<Steps, MapFault>
     requires { StepShape bytes.now }
     ensures { MatchResult result (λ m. StepsLaid bytes.now (vec_items m.x) (vec_items m.y)) (RowsRefused of_kind.Steps bytes.now) }
 {
+    let mut steps = Steps::new(heap);
+    steps.replace(heap, &x_rows(bytes), &y_rows(bytes))?;
+    Ok(steps)
+}
+
+fn x_rows(bytes: &[u8]) -> ArrayVec<Step, MOST_STEPS>
+    requires { slice_index bytes.now 1 ≤ 16 }
+    ensures { result.items ≡ x_steps bytes.now }
+{
+    step_rows(bytes, 0, usize::from(byte_at(bytes, 1)))
+}
+
+// Numbered after those for x.
+fn y_rows(bytes: &[u8]) -> ArrayVec<Step, MOST_STEPS>
+    requires { (slice_index bytes.now 1 ≤ 16) × (slice_index bytes.now 2 ≤ 16) }
+    ensures { result.items ≡ y_steps bytes.now }
+{
     let x = usize::from(byte_at(bytes, 1));
     let y = usize::from(byte_at(bytes, 2));
-    let mut steps = Steps::new(heap);
-    steps.replace(heap, &step_rows(bytes, 0, x), &step_rows(bytes, x, y))?;
-    Ok(steps)
+    step_rows(bytes, x, y)
 }
 
 // So many steps, from this number on.
