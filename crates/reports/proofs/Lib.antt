@@ -1,2 +1,5 @@
 pub mod Lengths
 pub mod Wholes
+pub mod Layered
+pub mod Told
+pub mod Outcomes

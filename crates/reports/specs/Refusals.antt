@@ -1,5 +1,5 @@
 -- What the refusals of writing tell.
-use Rattle.std.specs.Prelude.{[], ◌∷◌}
+use Rattle.std.specs.Prelude.{ℕ, List, [], ◌∷◌, ◌++◌, codes, decimal}
 use Rattle.nets.specs.Refusals.{Told, refused, no_memory}
 use Rattle.reports.specs.declared.faults.TextFault.{TextFault}
 use Rattle.reports.specs.declared.faults.TextFault.TheVariants as of_text
@@ -8,3 +8,7 @@ use Rattle.reports.specs.declared.faults.TextFault.TheVariants as of_text
 abbrev pub text_told : TextFault → Told
 text_told (of_text.Short n) = refused 31 (n ∷ [])
 text_told of_text.Memory = no_memory
+
+abbrev pub fault_text : TextFault → List ℕ
+fault_text (of_text.Short n) = codes "refused 31 place " ++ decimal n
+fault_text of_text.Memory = codes "out of memory"

@@ -1,12 +1,16 @@
-// What is measured of a whole panel, and the text of it.
+// The report of a job: what is measured of the whole panel, or how the job is refused, as a text.
 #![tactic(auto)]
 
+pub mod examination;
 pub mod faults;
 pub mod measured;
+pub mod outcome;
 pub mod panels;
 pub mod texts;
 mod writing;
 
+pub use examination::{examine, write_report};
 pub use faults::TextFault;
 pub use measured::Measured;
+pub use outcome::Outcome;
 pub use panels::measure;

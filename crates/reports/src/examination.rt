@@ -1,0 +1,50 @@
+// The examination of a job, and its text.
+ghost use Rattle.reports.specs.Jobs.{Examines, meaning};
+ghost use Rattle.reports.specs.Measures.{Measures};
+ghost use Rattle.reports.specs.Reports.{Writes};
+
+use crate::faults::TextFault;
+use crate::measured::Measured;
+use crate::outcome::Outcome;
+use crate::panels::measure;
+use crate::writing::put;
+use jobs::Recipe;
+use std::alloc::{AllocError, Global};
+
+// The fewest bytes of a place for a text.
+const ROOM: usize = 96;
+
+// Reads a job and measures the whole panel.
+#[tactic(auto, using(crate::proofs::Told::refused_or_wanting))]
+pub fn examine(heap: Global, job: &[u8]) -> Result<Outcome, AllocError>
+    ensures { Examines job.now result }
+{
+    let mut recipe = Recipe::new(heap);
+    match recipe.read(heap, job) {
+        Ok(()) => Ok(Outcome::Measured(measure_recipe(recipe))),
+        Err(fault) => match fault.refusal() {
+            Some(refusal) => Ok(Outcome::Refused(refusal)),
+            None => Err(AllocError),
+        },
+    }
+}
+
+fn measure_recipe(recipe: Recipe) -> Measured
+    ensures { Measures (meaning recipe) result }
+{
+    let Recipe { plan, layers, map } = recipe;
+    measure(layers.on(plan), map)
+}
+
+// Writes the text of a job at the start of a place, and answers how many bytes it has.
+#[tactic(auto, using(crate::proofs::Outcomes::outcome_short))]
+pub fn write_report(heap: Global, job: &[u8], place: &mut [u8]) -> Result<usize, TextFault>
+    ensures { Writes job.now place.old place.new result }
+{
+    if place.len() < ROOM {
+        return Err(TextFault::Short(place.len()));
+    }
+    let outcome = examine(heap, job)?;
+    let text = outcome.to_string(heap)?;
+    Ok(put(text.as_str(), place))
+}
