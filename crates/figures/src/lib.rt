@@ -8,6 +8,8 @@ mod box_maps;
 #[cfg(test)]
 mod cell_maps;
 #[cfg(test)]
+mod job_files;
+#[cfg(test)]
 mod layers_on_plans;
 #[cfg(test)]
 mod outside;
