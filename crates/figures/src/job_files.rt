@@ -7,6 +7,7 @@ use jobs::{
 };
 use maps::MapKind;
 use nets::Net;
+use plans::PlanKind;
 use reports::{TextFault, write_report};
 use std::test::Fail;
 
@@ -16,21 +17,37 @@ const EXAMPLE: [u8; 55] = [
     0, 0, 0, 0, 0, 0, 1, 0, 0, 0, 0, 0, 128, 0, 0, 0, 0, 0, 0, 0, 128, 0, 0, 3, 0,
 ];
 
-// The same with the places (0, 0), (0, 32768), (32768, 0) and (32768, 32768).
+// Sobol at level 3, the shift 1, 65535 and the swap, and the same box with w 5.
+const HELD: [u8; 55] = [
+    12, 0, 2, 0, 14, 0, 21, 0, 35, 0, 20, 0, 1, 3, 1, 1, 0, 255, 255, 0, 0, 0, 0, 0, 0, 0, 0, 0, 0,
+    0, 0, 0, 0, 0, 0, 0, 1, 0, 0, 0, 0, 0, 128, 0, 0, 0, 0, 0, 0, 0, 128, 0, 0, 5, 0,
+];
+
+// The example with the places (0, 0), (0, 32768), (32768, 0) and (32768, 32768).
 const SQUARE: [u8; 71] = [
     12, 0, 18, 0, 30, 0, 21, 0, 51, 0, 20, 0, 2, 2, 0, 0, 0, 0, 0, 0, 0, 128, 0, 128, 0, 0, 0, 128,
     0, 128, 0, 0, 0, 0, 0, 0, 0, 0, 0, 0, 0, 0, 0, 0, 0, 0, 0, 0, 0, 0, 0, 0, 1, 0, 0, 0, 0, 0,
     128, 0, 0, 0, 0, 0, 0, 0, 128, 0, 0, 3, 0,
 ];
 
-// One byte of the example changed: each fault, and that the recipe of the example stays.
+// The example with one byte changed, cut short, and with a list that is no net: each is refused, and the
+// recipe held before stays, all parts of it.
 #[test]
 fn refused_jobs(rt: HostRuntime) -> Result<(), Fail> {
     let heap = rt.alloc();
     let mut recipe = Recipe::new(heap);
+    assert_eq!(rt; recipe.plan.kind(), PlanKind::Hammersley);
     assert_eq!(rt; recipe.plan.level(), 0);
+    assert_eq!(rt; recipe.map.kind(), MapKind::Boxes);
     assert_eq!(rt; recipe.map.weight(), 0);
-    assert_eq!(rt; recipe.read(heap, &EXAMPLE), Ok(()));
+    assert_eq!(rt; recipe.read(heap, &HELD), Ok(()));
+    let layers = LayerNumbers {
+        s: 1,
+        t: 65535,
+        x_word: 0,
+        y_word: 0,
+        swap: true,
+    };
     for (at, byte, fault) in [
         (0, 11, JobFault::Directory(DirectoryFault::Pair(0))),
         (4, 13, JobFault::Directory(DirectoryFault::Pair(1))),
@@ -61,13 +78,15 @@ fn refused_jobs(rt: HostRuntime) -> Result<(), Fail> {
         ),
     ] {
         let mut job = EXAMPLE;
-        if at < 55usize {
-            job[at] = byte;
+        match job.get_mut(at) {
+            Some(changed) => *changed = byte,
+            None => assert!(rt; false),
         }
         assert_eq!(rt; recipe.read(heap, &job), Err(fault));
-        assert_eq!(rt; recipe.plan.level(), 2);
-        assert_eq!(rt; recipe.layers, LayerNumbers::default());
-        assert_eq!(rt; recipe.map.coat((32767, 0)), 3);
+        assert_eq!(rt; recipe.plan.kind(), PlanKind::Sobol);
+        assert_eq!(rt; recipe.plan.place(5), Ok((40960, 8192)));
+        assert_eq!(rt; recipe.layers, layers);
+        assert_eq!(rt; recipe.map.coat((32767, 0)), 5);
     }
     assert_eq!(rt;
         recipe.read(heap, &EXAMPLE[..11]),
@@ -84,7 +103,7 @@ fn refused_jobs(rt: HostRuntime) -> Result<(), Fail> {
     assert_eq!(rt; recipe.read(heap, &SQUARE), Err(fault));
     let text = "refused 13 section 1 place 14 depth 0 interval 1";
     assert_eq!(rt; fault.to_string(heap)?.as_str(), text);
-    assert_eq!(rt; recipe.plan.place(3), Ok((49152, 49152)));
+    assert_eq!(rt; recipe.plan.place(5), Ok((40960, 8192)));
     Ok(())
 }
 

@@ -4,7 +4,7 @@ use Rattle.nets.specs.Refusals.{Told, no_memory}
 use Rattle.plans.specs.declared.plan.Plan.{Plan}
 use Rattle.jobs.proofs.MapRows.{map_passes}
 use Rattle.jobs.specs.Layout.{offset, section, PlanLaid, LayersLaid}
-use Rattle.jobs.specs.Checks.{Check, First, Passes, Refused, directory_checks, plan_checks, layer_checks, map_checks, checks}
+use Rattle.jobs.specs.Checks.{Check, First, Passes, Refused, directory_checks, plan_checks, layer_checks, plan_checks_of, layer_checks_of, map_checks_of, checks}
 use Rattle.jobs.specs.Jobs.{IsJob}
 use Rattle.jobs.specs.declared.layer_numbers.LayerNumbers.{LayerNumbers}
 use Rattle.jobs.specs.declared.recipe.Recipe.{Recipe}
@@ -22,7 +22,7 @@ pub layers_pass : (start : ℕ) (bytes : List ℕ) (l : LayerNumbers) → Layers
 layers_pass start bytes l h = grind arith
 
 -- a job whose map is refused
-pub map_refused : (job : List ℕ) (t : Told) → Passes (directory_checks job) → Passes (plan_checks (offset job 0) (section job 0)) → Passes (layer_checks (offset job 1) (section job 1)) → Refused (map_checks (offset job 2) (section job 2)) t → Refused (checks job) t
+pub map_refused : (job : List ℕ) (t : Told) → Passes (directory_checks job) → Passes (plan_checks_of job) → Passes (layer_checks_of job) → Refused (map_checks_of job) t → Refused (checks job) t
 unfolding checks
 map_refused job t d p l (inl f) = inl (inr (d.0, inr (d.1.0, inr (d.1.1.0, inr (d.1.1.1.0, inr (p.0, inr (p.1.0, inr (p.1.1.0, inr (p.1.1.1.0, inr (l.0, f))))))))))
 map_refused job t d p l (inr (m, e)) = inr ((d.0, (d.1.0, (d.1.1.0, (d.1.1.1.0, (p.0, (p.1.0, (p.1.1.0, (p.1.1.1.0, (l.0, m))))))))), e)

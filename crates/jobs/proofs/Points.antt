@@ -1,12 +1,16 @@
 -- What the audit says of bytes that are as many as a level's places have.
-use Rattle.std.proofs.Common.{◌≡◌, ℕ, ◌*◌, ◌^◌, ◌≤◌, List, length, Ok, subst, inl, inr, arith}
+use Rattle.std.proofs.Common.{◌≡◌, ℕ, [], ◌∷◌, ◌*◌, ◌^◌, ◌≤◌, ◌⊎◌, List, length, Ok, sym, subst, inl, inr, arith}
 use Rattle.nets.specs.Bytes.{laid}
 use Rattle.nets.specs.Places.{IsNet}
+use Rattle.nets.specs.Refusals.{Told, refused, no_memory}
 use Rattle.nets.proofs.Intervals.{held_from_net, same_level}
 use Rattle.audit.specs.declared.audits.Accepted.{Accepted}
 use Rattle.audit.specs.declared.faults.NotNet.{NotNet}
+use Rattle.audit.specs.declared.faults.AuditFault.{AuditFault}
+use Rattle.audit.specs.declared.faults.AuditFault.TheVariants as of_audit
 use Rattle.audit.specs.Audits.{FirstEmpty, NoNet, RefusedBytes, AuditedBytes}
-use Rattle.audit.specs.Refusals.{net_told}
+use Rattle.audit.specs.Loads.{NoMemory}
+use Rattle.audit.specs.Refusals.{net_told, audit_told}
 use Rattle.jobs.specs.Checks.{IsFound}
 
 -- bytes for the places of one level are those of no other
@@ -26,6 +30,28 @@ module _ (m : ℕ) (low : m ≤ 12) (bytes : List ℕ) (long : length bytes ≡ 
         none = λ net. omega (arith, x.first.empty, held_from_net k (laid bytes) net x.d x.n x.first.depth x.first.number);
       })
 
-  pub refused : (e : NotNet) → RefusedBytes bytes (net_told e) → IsFound m (laid bytes) e
-  refused e (inl w) = absurd (w.never m low long)
-  refused e (inr (k, s, x)) = found_at k e x (level_of k m _ s long)
+  pub found : (e : NotNet) → RefusedBytes bytes (net_told e) → IsFound m (laid bytes) e
+  found e (inl w) = absurd (w.never m low long)
+  found e (inr (k, s, x)) = found_at k e x (level_of k m _ s long)
+
+net_passes : (m : ℕ) (bytes : List ℕ) (t : Told) → m ≤ 12 → length bytes ≡ 4 * 2 ^ m → IsNet m (laid bytes) → RefusedBytes bytes t → ⊥
+net_passes m bytes t low long net (inl w) = w.never m low long
+net_passes m bytes t low long net (inr (k, s, x)) =
+    let here : IsNet k (laid bytes) = subst (λ z. IsNet z (laid bytes)) (sym (level_of k m _ s long)) net in
+    omega (arith, x.first.empty, held_from_net k (laid bytes) here x.d x.n x.first.depth x.first.number)
+
+refusal_told : (e : AuditFault) → audit_told e ≡ no_memory → ⊥
+refusal_told (of_audit.Length n) h = grind (arith, h)
+refusal_told (of_audit.Empty e) h = grind (arith, h)
+
+-- loading bytes that lay down a net is refused by no audit
+pub net_loads : (m : ℕ) (bytes : List ℕ) (e : AuditFault) → m ≤ 12 → length bytes ≡ 4 * 2 ^ m → IsNet m (laid bytes) → RefusedBytes bytes (audit_told e) ⊎ NoMemory bytes (audit_told e) → ⊥
+net_loads m bytes e low long net (inl r) = net_passes m bytes (audit_told e) low long net r
+net_loads m bytes e low long net (inr w) = refusal_told e w.tells
+
+-- bytes as many as a level's places have are not refused with 12
+pub length_passes : (m : ℕ) (bytes : List ℕ) (n : ℕ) → m ≤ 12 → length bytes ≡ 4 * 2 ^ m → RefusedBytes bytes (refused 12 (n ∷ [])) → ⊥
+length_passes m bytes n low long (inl w) = w.never m low long
+length_passes m bytes n low long (inr (k, s, x)) = absurd (grind (arith, x.tells))
+
+pub ruleset points = (level_of, net_loads, length_passes)

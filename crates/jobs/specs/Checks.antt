@@ -13,7 +13,7 @@ use Rattle.cells.specs.Cells.{cell, cells_terms}
 use Rattle.maps.specs.declared.map.MapKind.{MapKind}
 use Rattle.jobs.specs.Refusals.{rows_told}
 use Rattle.jobs.specs.Rows.{row_of}
-use Rattle.jobs.specs.Layout.{InPlace, offset, section, kind, level, plan_size, places, Shaped, boxes, x_steps, y_steps, cells}
+use Rattle.jobs.specs.Layout.{InPlace, offset, section, kind, level, swap, plan_size, places, Shaped, boxes, x_steps, y_steps, cells}
 
 -- when a job passes, and what may be told if it does not
 pub record Check : Type 1 where
@@ -67,7 +67,7 @@ plan_checks start bytes =
     ∷ []
 
 abbrev pub layer_checks : (start : ℕ) (bytes : List ℕ) → List Check
-layer_checks start bytes = check 6 2 start ((length bytes ≡ 21) × (kind bytes ≤ 1)) ∷ []
+layer_checks start bytes = check 6 2 start ((length bytes ≡ 21) × (swap bytes ≤ 1)) ∷ []
 
 -- 8 tells the first byte of the first row out of its bounds, of rows that each have this size
 abbrev pub bounds_check : {R : Type 0} (When : Type 0) (Bounds : R → Type 0) (rows : List R) (start each : ℕ) → Check
@@ -90,9 +90,15 @@ map_checks start bytes =
 abbrev pub RowsRefused : MapKind → (bytes : List ℕ) → MapFault → Type 0
 RowsRefused k bytes e = (row_of e ≤ 32) × ((start : ℕ) → Refused (map_checks start bytes) (rows_told start k e))
 
+-- those of the sections of a job
+abbrev pub plan_checks_of : (job : List ℕ) → List Check
+plan_checks_of job = plan_checks (offset job 0) (section job 0)
+
+abbrev pub layer_checks_of : (job : List ℕ) → List Check
+layer_checks_of job = layer_checks (offset job 1) (section job 1)
+
+abbrev pub map_checks_of : (job : List ℕ) → List Check
+map_checks_of job = map_checks (offset job 2) (section job 2)
+
 unfoldable pub checks : (job : List ℕ) → List Check
-checks job =
-    directory_checks job
-    ++ plan_checks (offset job 0) (section job 0)
-    ++ layer_checks (offset job 1) (section job 1)
-    ++ map_checks (offset job 2) (section job 2)
+checks job = directory_checks job ++ plan_checks_of job ++ layer_checks_of job ++ map_checks_of job

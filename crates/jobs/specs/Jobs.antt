@@ -1,8 +1,11 @@
 -- What reading a job answers, and what the recipe then is.
 use Rattle.std.specs.Prelude.{◌≡◌, ℕ, ◌≤◌, false, List, [], ◌∷◌, length, Ok, Err, Result, ⊤}
 use Rattle.nets.specs.Refusals.{no_memory}
+use Rattle.maps.specs.declared.map.MapKind.TheVariants as of_map
 use Rattle.maps.specs.Kinds.{terms_of}
-use Rattle.plans.specs.Plans.{level_of, places_of}
+use Rattle.maps.specs.Kinds.{kind_of as map_kind_of}
+use Rattle.plans.specs.declared.plan.PlanKind.TheVariants as of_plan
+use Rattle.plans.specs.Plans.{kind_of, level_of, places_of}
 use Rattle.jobs.specs.Checks.{Refused, checks}
 use Rattle.jobs.specs.Layout.{InPlace, section, PlanLaid, LayersLaid, MapLaid}
 use Rattle.jobs.specs.Refusals.{job_told}
@@ -31,8 +34,11 @@ abbrev pub Accepts : {X : Type 0} → Result X JobFault → Type 0
 Accepts (Ok _) = ⊤
 Accepts (Err e) = job_told e ≡ no_memory
 
--- as a recipe begins: level 0, no layer that moves a place, and no boxes
+-- as a recipe begins: Hammersley's level 0, with the one place (0, 0), no layer that moves it, and no boxes
 pub record Begins (r : Recipe) : Type 0 where
-  pub plan : (level_of r.plan ≡ 0) × (places_of r.plan ≡ (0, 0) ∷ [])
+  pub plan_kind : kind_of r.plan ≡ of_plan.Hammersley
+  pub level : level_of r.plan ≡ 0
+  pub places : places_of r.plan ≡ (0, 0) ∷ []
+  pub map_kind : map_kind_of r.map ≡ of_map.Boxes
   pub layers : r.layers ≡ record { s = 0; t = 0; x_word = 0; y_word = 0; swap = false }
   pub map : terms_of r.map ≡ []

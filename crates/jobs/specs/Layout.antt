@@ -45,6 +45,10 @@ kind bytes = slice_index bytes 0
 abbrev pub level : List ℕ → ℕ
 level bytes = slice_index bytes 1
 
+-- the layer section begins with whether to swap
+abbrev pub swap : List ℕ → ℕ
+swap bytes = slice_index bytes 0
+
 -- kind 2 has places
 abbrev pub plan_size : (kind m : ℕ) → ℕ
 plan_size k m = if k == 2 then 2 + 4 * 2 ^ m else 2
@@ -72,7 +76,7 @@ PlanLaid bytes (plan.Points p) = PointsLaid bytes p.level.m (vec_items p.places)
 
 pub record LayersLaid (bytes : List ℕ) (l : LayerNumbers) : Type 0 where
   pub long : length bytes ≡ 21
-  pub swap : slice_index bytes 0 ≡ (if l.swap then 1 else 0)
+  pub swapped : swap bytes ≡ (if l.swap then 1 else 0)
   pub s : l.s ≡ le 2 bytes 1
   pub t : l.t ≡ le 2 bytes 3
   pub x_word : l.x_word ≡ le 8 bytes 5

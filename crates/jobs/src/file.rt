@@ -1,6 +1,6 @@
 // A job file by its directory: where its sections lie, and what each of them says.
 ghost use Rattle.std.specs.Prelude.{◌≡◌, ℕ, ◌+◌, ◌*◌, ◌<◌, ◌≤◌, length, MatchResult, slice_range};
-ghost use Rattle.jobs.specs.Checks.{First, Passes, Refused, directory_checks, plan_checks, layer_checks, map_checks};
+ghost use Rattle.jobs.specs.Checks.{First, Passes, Refused, directory_checks, plan_checks_of, layer_checks_of, map_checks_of};
 ghost use Rattle.jobs.specs.Extents.{IsPair};
 ghost use Rattle.jobs.specs.Layout.{offset, size, section, LayersLaid, MapLaid};
 ghost use Rattle.jobs.specs.Refusals.{directory_told, plan_told, layers_told, map_section_told};
@@ -59,20 +59,22 @@ impl JobFile<'_> {
     }
 
     pub(crate) fn plan(&self) -> Result<PlanSection<'_>, PlanSectionFault>
-        ensures { let job = self.now.bytes.now in MatchResult result (λ s. (s.bytes.now ≡ section job 0) × Passes (plan_checks (offset job 0) (section job 0))) (λ e. First (plan_checks (offset job 0) (section job 0)) (plan_told e)) }
+        ensures { let job = self.now.bytes.now in MatchResult result (λ s. (s.bytes.now ≡ section job 0) × Passes (plan_checks_of job))
+            (λ e. First (plan_checks_of job) (plan_told e)) }
     {
         PlanSection::read(self.plan.off, part(self.bytes, self.plan))
     }
 
     pub(crate) fn layers(&self) -> Result<LayerNumbers, LayerSectionFault>
-        ensures { let job = self.now.bytes.now in MatchResult result (λ l. LayersLaid (section job 1) l × Passes (layer_checks (offset job 1) (section job 1))) (λ e. First (layer_checks (offset job 1) (section job 1)) (layers_told e)) }
+        ensures { let job = self.now.bytes.now in MatchResult result (λ l. LayersLaid (section job 1) l × Passes (layer_checks_of job))
+            (λ e. First (layer_checks_of job) (layers_told e)) }
     {
         read_layers(self.layers.off, part(self.bytes, self.layers))
     }
 
     pub(crate) fn map(&self, heap: Global) -> Result<Map, MapSectionFault>
-        ensures { let job = self.now.bytes.now in MatchResult result (λ m. MapLaid (section job 2) m × Passes (map_checks (offset job 2) (section job 2)))
-            (λ e. Refused (map_checks (offset job 2) (section job 2)) (map_section_told e)) }
+        ensures { let job = self.now.bytes.now in MatchResult result (λ m. MapLaid (section job 2) m × Passes (map_checks_of job))
+            (λ e. Refused (map_checks_of job) (map_section_told e)) }
     {
         read_map(heap, self.map.off, part(self.bytes, self.map))
     }

@@ -10,7 +10,7 @@ mod map_section;
 mod plan_section;
 pub mod recipe;
 pub mod refusal;
-pub mod tellings;
+mod tellings;
 
 pub use faults::{
     DirectoryFault, JobFault, LayerSectionFault, MapSectionFault, PlanSectionFault, PointsAt,

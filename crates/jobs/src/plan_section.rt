@@ -8,7 +8,7 @@ ghost use Rattle.jobs.specs.Codes.{plan_code};
 ghost use Rattle.jobs.specs.Layout.{PlanHead, kind, level, plan_size, places as placed};
 
 use crate::faults::{PlanSectionFault, PointsAt};
-use audit::{AuditFault, NotNet, PointList, audit_bytes};
+use audit::{AuditFault, LoadFault, NotNet, PointList, audit_bytes};
 use little_endian::byte_at;
 use nets::Level;
 use plans::{Plan, PlanKind};
@@ -103,6 +103,7 @@ fn check_net(kind: PlanKind, level: Level, bytes: &[u8]) -> Result<(), NotNet>
 }
 
 // What the audit finds of as many places as a level has.
+#[tactic(auto, using(crate::proofs::Points::points))]
 fn audit_places(level: Level, bytes: &[u8]) -> Result<(), NotNet>
     requires { length bytes.now ≡ 4 * 2 ^ level.m }
     ensures { MatchResult result (λ _. IsNet level.m (laid bytes.now)) (λ e. IsFound level.m (laid bytes.now) e) }
@@ -110,13 +111,12 @@ fn audit_places(level: Level, bytes: &[u8]) -> Result<(), NotNet>
     match audit_bytes(bytes) {
         Ok(_) => Ok(()),
         Err(AuditFault::Empty(fault)) => Err(fault),
-        // There is none for such a length.
-        Err(AuditFault::Length(_)) => Ok(()),
+        Err(AuditFault::Length(_)) => unreachable!(),
     }
 }
 
 // The list of places that are a net, so that loading asks only for memory.
-#[tactic(auto, using(crate::proofs::Points::level_of))]
+#[tactic(auto, using(crate::proofs::Points::points))]
 fn point_list(heap: Global, level: Level, bytes: &[u8]) -> Result<PointList, AllocError>
     requires long { length bytes.now ≡ 4 * 2 ^ level.m }
     requires net { IsNet level.m (laid bytes.now) }
@@ -125,6 +125,7 @@ fn point_list(heap: Global, level: Level, bytes: &[u8]) -> Result<PointList, All
     let mut list = PointList::new(heap)?;
     match list.load(heap, bytes) {
         Ok(_) => Ok(list),
-        Err(_) => Err(AllocError),
+        Err(LoadFault::Memory) => Err(AllocError),
+        Err(LoadFault::Audit(_)) => unreachable!(),
     }
 }

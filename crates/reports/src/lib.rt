@@ -6,7 +6,7 @@ pub mod faults;
 pub mod measured;
 pub mod outcome;
 pub mod panels;
-pub mod texts;
+mod texts;
 mod writing;
 
 pub use examination::{examine, write_report};
