@@ -166,9 +166,9 @@ class Life:
             else: value = words_of(words[1:], 0)
         except Unread: return here + "cannot read its words"
         if name in ("open", "begin", "map"):
+            if value.fault(): return here + value.fault()
             if self.complete() and value.kind != self.history[name == "map"][1].kind:
                 return here + "another kind of " + ("map" if name == "map" else "plan")
-            if value.fault(): return here + value.fault()
         ok, text = (True, "opened" if self.history else "plan") if not self.complete() else self.call(name, value)
         if ok is not None: self.history.append((name, value, ok, line, text))
         return text

@@ -3,6 +3,8 @@ use Rattle.std.specs.Prelude.{ℕ, List, ◌++◌, codes, decimal, Ok, Err}
 use Rattle.std.specs.Fmt.{signed_decimal}
 use Rattle.audit.specs.declared.faults.AuditFault.TheVariants.{Length, Empty}
 use Rattle.coats.specs.declared.faults.MapFault.TheVariants as of_map
+use Rattle.jobs.specs.Refusals.{refusal_told}
+use Rattle.jobs.specs.Texts.{told_text}
 use Rattle.survey.specs.declared.faults.TakeFault.TheVariants as of_take
 use Rattle.survey.specs.declared.gauge.Answer.{Answer}
 use Rattle.survey.specs.declared.gauge.Answer.TheVariants as of_call
@@ -19,14 +21,16 @@ fault_text of_line.Unknown = codes "unknown command"
 fault_text of_line.NotOpen = codes "no recipe is open"
 fault_text of_line.Open = codes "a recipe is open"
 fault_text of_line.Words = codes "cannot read its words"
-fault_text of_line.PlanKind = codes "another kind of plan"
-fault_text of_line.MapKind = codes "another kind of map"
+fault_text of_line.File = codes "cannot read the file"
+fault_text (of_line.Job r) = told_text (refusal_told r)
 fault_text (of_line.Level m) = codes "refused 4 level " ++ decimal m
 fault_text (of_line.Points (Length n)) = codes "refused 12 place " ++ decimal n
 fault_text (of_line.Points (Empty e)) = codes "refused 13 depth " ++ (decimal e.depth ++ (codes " interval " ++ decimal e.interval))
 fault_text (of_line.Map of_map.Count) = codes "refused 7"
 fault_text (of_line.Map (of_map.Row i)) = codes "refused 8 row " ++ decimal i
 fault_text (of_line.Map of_map.Weight) = codes "refused 9"
+fault_text of_line.PlanKind = codes "another kind of plan"
+fault_text of_line.MapKind = codes "another kind of map"
 fault_text (of_line.Map of_map.Memory) = codes "out of memory"
 fault_text of_line.Memory = codes "out of memory"
 

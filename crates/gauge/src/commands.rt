@@ -1,9 +1,14 @@
 // Lines to commands.
+ghost use Rattle.std.specs.Prelude.{IfOk};
+ghost use Rattle.gauge.specs.Kinds.{IsOf};
+
 use crate::faults::Unreadable;
-use crate::map_pages::{GaugeMap, MapKind, read_map};
+use crate::map_pages::read_map;
 use crate::numbers::number;
-use crate::plan_pages::{GaugePlan, PlanKind, read_plan};
-use std::alloc::Global;
+use crate::plan_pages::{GaugePlan, read_plan};
+use maps::{Map, MapKind};
+use plans::PlanKind;
+use std::rt::Files;
 use survey::Call;
 
 // The first word of a line.
@@ -43,16 +48,18 @@ impl Verb {
 }
 
 // The call that a verb and the words after it make, once a recipe is open.
-pub(crate) fn read_call(
-    heap: Global,
+pub(crate) fn read_call<R: Files + AllocGlobal>(
+    rt: &R,
     kinds: Kinds,
     verb: Verb,
     words: &[&str],
-) -> Result<Call<GaugePlan, GaugeMap>, Unreadable> {
+) -> Result<Call<GaugePlan, Map>, Unreadable>
+    ensures { IfOk result (IsOf kinds) }
+{
     match (verb, words) {
         (Verb::Open, _) => Err(Unreadable::Open),
-        (Verb::Map, _) => Ok(Call::MapPage(read_map(heap, words, Some(kinds.map))?.map)),
-        (Verb::Begin, _) => Ok(Call::Begin(read_plan(heap, words, Some(kinds.plan))?.plan)),
+        (Verb::Map, _) => Ok(Call::MapPage(read_map(rt, words, Some(kinds.map))?)),
+        (Verb::Begin, _) => Ok(Call::Begin(read_plan(rt, words, Some(kinds.plan))?.plan)),
         (Verb::Take, [count]) => Ok(Call::Take(number(count)?)),
         (Verb::Limit, [limit]) => Ok(Call::Limit(number(limit)?)),
         (Verb::Report, []) => Ok(Call::Report),

@@ -1,14 +1,20 @@
 // Why a line makes no call.
-ghost use Rattle.std.specs.Prelude.{◌≡◌, Some};
+ghost use Rattle.std.specs.Prelude.{◌≡◌, ◌≢◌, Some};
+ghost use Rattle.std.specs.IoError.{error_kind};
+ghost use Rattle.std.specs.declared.io.ErrorKind.TheVariants as of_io;
+ghost use Rattle.jobs.specs.Refusals.{job_told};
 ghost use Rattle.gauge.specs.declared.faults.Unreadable.TheVariants as of_line;
+ghost use Rattle.gauge.specs.Jobs.{Tells};
 ghost use Rattle.gauge.specs.Texts.{fault_text};
 
 use audit::{AuditFault, LoadFault, NotNet};
 use coats::MapFault;
+use jobs::{JobFault, Refusal};
 use nets::LevelFault;
 use std::alloc::{AllocError, AllocFailed};
 use std::error::Error;
-use std::fmt;
+use std::io::ErrorKind;
+use std::{fmt, io};
 
 #[derive(Clone, Copy, Debug, PartialEq, Eq)]
 pub enum Unreadable {
@@ -17,14 +23,18 @@ pub enum Unreadable {
     NotOpen,
     Open,
     Words,
-    PlanKind,
-    MapKind,
+    // A job file cannot be opened or read.
+    File,
+    // What is told of a job that is refused.
+    Job(Refusal),
     // 4.
     Level(u32),
     // 12 or 13 of a points page.
     Points(AuditFault),
     // 7, 8 or 9 of a map page, or want of memory.
     Map(MapFault),
+    PlanKind,
+    MapKind,
     // Want of memory elsewhere. It ends the program and is told in no line.
     Memory,
 }
@@ -40,8 +50,8 @@ impl fmt::Display for Unreadable {
             Unreadable::NotOpen => write!(f, "no recipe is open"),
             Unreadable::Open => write!(f, "a recipe is open"),
             Unreadable::Words => write!(f, "cannot read its words"),
-            Unreadable::PlanKind => write!(f, "another kind of plan"),
-            Unreadable::MapKind => write!(f, "another kind of map"),
+            Unreadable::File => write!(f, "cannot read the file"),
+            Unreadable::Job(refusal) => write!(f, "{refusal}"),
             Unreadable::Level(level) => write!(f, "refused 4 level {level}"),
             Unreadable::Points(AuditFault::Length(size)) => write!(f, "refused 12 place {size}"),
             Unreadable::Points(AuditFault::Empty(NotNet { depth, interval })) => {
@@ -50,6 +60,8 @@ impl fmt::Display for Unreadable {
             Unreadable::Map(MapFault::Count) => write!(f, "refused 7"),
             Unreadable::Map(MapFault::Row(row)) => write!(f, "refused 8 row {row}"),
             Unreadable::Map(MapFault::Weight) => write!(f, "refused 9"),
+            Unreadable::PlanKind => write!(f, "another kind of plan"),
+            Unreadable::MapKind => write!(f, "another kind of map"),
             Unreadable::Map(MapFault::Memory) | Unreadable::Memory => write!(f, "out of memory"),
         }
     }
@@ -101,5 +113,29 @@ impl From<MapFault> for Unreadable {
 
     fn from(e: MapFault) -> Unreadable {
         Unreadable::Map(e)
+    }
+}
+
+impl From<io::Error> for Unreadable {
+    ghost from_gives = { λ e r. (error_kind e ≡ of_io.OutOfMemory → r ≡ of_line.Memory) × (error_kind e ≢ of_io.OutOfMemory → r ≡ of_line.File) };
+
+    fn from(e: io::Error) -> Unreadable {
+        if e.kind() == ErrorKind::OutOfMemory {
+            Unreadable::Memory
+        } else {
+            Unreadable::File
+        }
+    }
+}
+
+// Want of memory has no refusal.
+impl From<JobFault> for Unreadable {
+    ghost from_gives = { λ e r. Tells r (job_told e) };
+
+    fn from(e: JobFault) -> Unreadable {
+        match e.refusal() {
+            Some(refusal) => Unreadable::Job(refusal),
+            None => Unreadable::Memory,
+        }
     }
 }

@@ -4,6 +4,7 @@
 mod answers;
 mod commands;
 mod faults;
+mod job_files;
 mod lines;
 mod map_pages;
 mod numbers;
@@ -23,7 +24,7 @@ fn run(rt: &HostRuntime) -> anyhow::Result<()> {
     let mut bytes = Vec::new(rt.alloc());
     let mut input = rt.stdin().take(MOST_BYTES as u64 + 1);
     input.read_to_end(&mut bytes)?;
-    for reply in &replies(rt.alloc(), &bytes)? {
+    for reply in &replies(rt, &bytes)? {
         println!(rt; "{reply}")?;
     }
     match cap_of(&bytes) {

@@ -1,102 +1,61 @@
 // Words to a map.
 ghost use Rattle.std.specs.Prelude.{◌≡◌, Some, IfOk};
-ghost use Rattle.gauge.specs.declared.map_pages.MapKind.{MapKind};
+ghost use Rattle.maps.specs.Kinds.{kind_of};
+ghost use Rattle.maps.specs.declared.map.MapKind.{MapKind};
 
 use crate::faults::Unreadable;
+use crate::job_files::read_job;
 use crate::numbers::number;
 use boxes::{BoxRow, Boxes};
 use cells::Cells;
-use maps::Map;
+use maps::{Map, MapKind};
 use std::alloc::Global;
+use std::rt::Files;
 use steps::{Step, Steps};
 
-pub type GaugeMap = Map;
-
-#[derive(Clone, Copy, Debug, PartialEq, Eq)]
-pub enum MapKind {
-    Boxes,
-    Steps,
-    Cells,
-}
-
-// What the words say of the map.
-#[derive(Debug, Drop)]
-enum Rows {
-    Boxes(Vec<BoxRow>),
-    Steps(Vec<Step>, Vec<Step>),
-    Cells([[i16; 8]; 8]),
-}
-
-// A map that was read, and its kind.
-#[derive(Debug, Drop)]
-pub struct MapSheet {
-    pub kind: MapKind,
-    pub map: GaugeMap,
-}
-
 // The map that words say, of the given kind or, if none is given, of any.
-pub(crate) fn read_map(
-    heap: Global,
+pub(crate) fn read_map<R: Files + AllocGlobal>(
+    rt: &R,
     words: &[&str],
     kind: Option<MapKind>,
-) -> Result<MapSheet, Unreadable>
-    ensures { IfOk result (λ p. (k : MapKind) → kind ≡ Some k → p.kind ≡ k) }
+) -> Result<Map, Unreadable>
+    ensures { IfOk result (λ m. (k : MapKind) → kind ≡ Some k → kind_of m ≡ k) }
 {
-    let rows = read_rows(heap, words)?;
-    let found = rows.kind();
-    if kind.is_some_and(|kind| kind != found) {
+    let map = read_any_map(rt, words)?;
+    if kind.is_some_and(|kind| kind != map.kind()) {
         return Err(Unreadable::MapKind);
     }
-    let map = rows.map(heap)?;
-    Ok(MapSheet { kind: found, map })
+    Ok(map)
 }
 
-impl Rows {
-    fn kind(&self) -> MapKind {
-        match self {
-            Rows::Boxes(_) => MapKind::Boxes,
-            Rows::Steps(_, _) => MapKind::Steps,
-            Rows::Cells(_) => MapKind::Cells,
-        }
-    }
-
-    fn map(&self, heap: Global) -> Result<GaugeMap, Unreadable> {
-        match self {
-            Rows::Boxes(rows) => boxes_of(heap, rows),
-            Rows::Steps(x, y) => steps_of(heap, x, y),
-            Rows::Cells(values) => cells_of(values),
-        }
+// The map of a job file, or the one that words say in full.
+fn read_any_map<R: Files + AllocGlobal>(rt: &R, words: &[&str]) -> Result<Map, Unreadable> {
+    match words {
+        ["job", path] => Ok(read_job(rt, path)?.map),
+        ["boxes", words @ ..] => boxes_of(rt.alloc(), words),
+        ["steps", words @ ..] => steps_of(rt.alloc(), words),
+        ["cells", words @ ..] => cells_of(words),
+        _ => Err(Unreadable::Words),
     }
 }
 
-fn boxes_of(heap: Global, rows: &[BoxRow]) -> Result<GaugeMap, Unreadable> {
+fn boxes_of(heap: Global, words: &[&str]) -> Result<Map, Unreadable> {
     let mut boxes = Boxes::new(heap);
-    boxes.replace(heap, rows)?;
+    boxes.replace(heap, &read_boxes(heap, words)?)?;
     Ok(Map::Boxes(boxes))
 }
 
-fn steps_of(heap: Global, x: &[Step], y: &[Step]) -> Result<GaugeMap, Unreadable> {
+fn steps_of(heap: Global, words: &[&str]) -> Result<Map, Unreadable> {
+    let (x, y) = split_axes(words)?;
     let mut steps = Steps::new(heap);
-    steps.replace(heap, x, y)?;
+    steps.replace(heap, &read_steps(heap, x)?, &read_steps(heap, y)?)?;
     Ok(Map::Steps(steps))
 }
 
-fn cells_of(values: &[[i16; 8]; 8]) -> Result<GaugeMap, Unreadable> {
+fn cells_of(words: &[&str]) -> Result<Map, Unreadable> {
     let mut cells = Cells::new();
-    cells.replace(values)?;
+    cells.replace(&read_cells(words)?)?;
     Ok(Map::Cells(cells))
-}
-
-fn read_rows(heap: Global, words: &[&str]) -> Result<Rows, Unreadable> {
-    match words {
-        ["boxes", words @ ..] => Ok(Rows::Boxes(read_boxes(heap, words)?)),
-        ["steps", words @ ..] => {
-            let (x, y) = split_axes(words)?;
-            Ok(Rows::Steps(read_steps(heap, x)?, read_steps(heap, y)?))
-        }
-        ["cells", words @ ..] => Ok(Rows::Cells(read_cells(words)?)),
-        _ => Err(Unreadable::Words),
-    }
 }
 
 fn read_boxes(heap: Global, words: &[&str]) -> Result<Vec<BoxRow>, Unreadable> {

@@ -1,120 +1,71 @@
 // Words to a plan.
 ghost use Rattle.std.specs.Prelude.{◌≡◌, Some, IfOk};
-ghost use Rattle.gauge.specs.declared.plan_pages.PlanKind.{PlanKind};
+ghost use Rattle.plans.specs.Plans.{kind_of};
+ghost use Rattle.plans.specs.declared.plan.PlanKind.{PlanKind};
 
 use crate::faults::Unreadable;
+use crate::job_files::read_job;
 use crate::numbers::number;
 use audit::PointList;
-use layers::{MaybeSwap, Scramble, Shift};
-use plans::Plan;
+use jobs::{LayerNumbers, LayeredPlan};
+use plans::{Plan, PlanKind};
 use sequences::{Hammersley, Sobol};
 use std::alloc::Global;
+use std::rt::Files;
 
-pub type GaugePlan = MaybeSwap<Scramble<Shift<Plan>>>;
+pub type GaugePlan = LayeredPlan<Plan>;
 
-#[derive(Clone, Copy, Debug, PartialEq, Eq)]
-pub enum PlanKind {
-    Hammersley,
-    Sobol,
-    Points,
-}
-
-// What the words say of the plan below the layers.
-#[derive(Debug, Drop)]
-enum Source {
-    Hammersley(u32),
-    Sobol(u32),
-    // The places, as bytes.
-    Points(Vec<u8>),
-}
-
-#[derive(Clone, Copy, Debug)]
-struct Layers {
-    s: u16,
-    t: u16,
-    v: u64,
-    w: u64,
-    swap: bool,
-}
-
-// A plan that was read, and its kind.
+// A plan that was read, and the kind of it below its layers.
 #[derive(Debug, Drop)]
 pub struct PlanPage {
     pub kind: PlanKind,
     pub plan: GaugePlan,
+    ghost below: { kind_of plan.plan.plan.plan ≡ kind },
 }
 
 // The plan that words say, of the given kind or, if none is given, of any.
-pub(crate) fn read_plan(
-    heap: Global,
+pub(crate) fn read_plan<R: Files + AllocGlobal>(
+    rt: &R,
     words: &[&str],
     kind: Option<PlanKind>,
 ) -> Result<PlanPage, Unreadable>
     ensures { IfOk result (λ p. (k : PlanKind) → kind ≡ Some k → p.kind ≡ k) }
 {
-    let (source, rest) = read_source(heap, words)?;
-    let layers = read_layers(rest)?;
-    let found = source.kind();
-    if kind.is_some_and(|kind| kind != found) {
+    let page = read_page(rt, words)?;
+    if kind.is_some_and(|kind| kind != page.kind) {
         return Err(Unreadable::PlanKind);
     }
-    let plan = source.plan(heap)?;
-    Ok(PlanPage {
-        kind: found,
-        plan: layers.on(plan),
-    })
+    Ok(page)
 }
 
-impl Source {
-    fn kind(&self) -> PlanKind {
-        match self {
-            Source::Hammersley(_) => PlanKind::Hammersley,
-            Source::Sobol(_) => PlanKind::Sobol,
-            Source::Points(_) => PlanKind::Points,
-        }
-    }
-
-    fn plan(&self, heap: Global) -> Result<Plan, Unreadable> {
-        match self {
-            Source::Hammersley(level) => Ok(Plan::Hammersley(Hammersley::new(*level)?)),
-            Source::Sobol(level) => Ok(Plan::Sobol(Sobol::new(*level)?)),
-            Source::Points(bytes) => Ok(Plan::Points(load(heap, bytes)?)),
-        }
-    }
-}
-
-impl Layers {
-    fn on(self, plan: Plan) -> GaugePlan {
-        let shift = Shift::new(plan, self.s, self.t);
-        let scramble = Scramble::new(shift, self.v, self.w);
-        MaybeSwap::new(scramble, self.swap)
-    }
-}
-
-fn load(heap: Global, bytes: &[u8]) -> Result<PointList, Unreadable> {
-    let mut points = PointList::new(heap)?;
-    points.load(heap, bytes)?;
-    Ok(points)
-}
-
-// The plan's words, and those after them.
-fn read_source<'a, 'b>(
-    heap: Global,
-    words: &'b [&'a str],
-) -> Result<(Source, &'b [&'a str]), Unreadable> {
+// The plan of a job file, or the one that words say in full.
+fn read_page<R: Files + AllocGlobal>(rt: &R, words: &[&str]) -> Result<PlanPage, Unreadable> {
     match words {
-        ["hammersley", level, rest @ ..] => Ok((Source::Hammersley(number(level)?), rest)),
-        ["sobol", level, rest @ ..] => Ok((Source::Sobol(number(level)?), rest)),
-        ["points", rest @ ..] => {
-            let (numbers, rest) = split_numbers(rest)?;
-            Ok((Source::Points(read_places(heap, numbers)?), rest))
+        ["job", path] => {
+            let recipe = read_job(rt, path)?;
+            Ok(PlanPage::new(recipe.plan, recipe.layers))
         }
-        _ => Err(Unreadable::Words),
+        _ => {
+            let (plan, layers) = split_layers(words)?;
+            let layers = read_layers(layers)?;
+            let plan = read_below(rt.alloc(), plan)?;
+            Ok(PlanPage::new(plan, layers))
+        }
+    }
+}
+
+impl PlanPage {
+    fn new(plan: Plan, layers: LayerNumbers) -> PlanPage {
+        let kind = plan.kind();
+        PlanPage {
+            kind,
+            plan: layers.on(plan),
+        }
     }
 }
 
 // The words before the first layer's name, and those from there.
-fn split_numbers<'a, 'b>(
+fn split_layers<'a, 'b>(
     words: &'b [&'a str],
 ) -> Result<(&'b [&'a str], &'b [&'a str]), Unreadable> {
     let count = words.iter().take_while(|word| !is_layer(word)).count();
@@ -123,6 +74,21 @@ fn split_numbers<'a, 'b>(
 
 fn is_layer(word: &str) -> bool {
     matches!(word, "shift" | "scramble" | "swap")
+}
+
+// The plan below the layers.
+fn read_below(heap: Global, words: &[&str]) -> Result<Plan, Unreadable> {
+    match words {
+        ["hammersley", level] => Ok(Plan::Hammersley(Hammersley::new(number(level)?)?)),
+        ["sobol", level] => Ok(Plan::Sobol(Sobol::new(number(level)?)?)),
+        ["points", words @ ..] => {
+            let bytes = read_places(heap, words)?;
+            let mut points = PointList::new(heap)?;
+            points.load(heap, &bytes)?;
+            Ok(Plan::Points(points))
+        }
+        _ => Err(Unreadable::Words),
+    }
 }
 
 // Coordinates, x then y, each as two bytes.
@@ -139,11 +105,17 @@ fn read_places(heap: Global, words: &[&str]) -> Result<Vec<u8>, Unreadable> {
 }
 
 // The layers, and no word after them.
-fn read_layers(words: &[&str]) -> Result<Layers, Unreadable> {
+fn read_layers(words: &[&str]) -> Result<LayerNumbers, Unreadable> {
     let (s, t, words) = read_shift(words)?;
-    let (v, w, words) = read_scramble(words)?;
+    let (x_word, y_word, words) = read_scramble(words)?;
     let swap = read_swap(words)?;
-    Ok(Layers { s, t, v, w, swap })
+    Ok(LayerNumbers {
+        s,
+        t,
+        x_word,
+        y_word,
+        swap,
+    })
 }
 
 fn read_shift<'a, 'b>(words: &'b [&'a str]) -> Result<(u16, u16, &'b [&'a str]), Unreadable> {
@@ -155,7 +127,7 @@ fn read_shift<'a, 'b>(words: &'b [&'a str]) -> Result<(u16, u16, &'b [&'a str]),
 
 fn read_scramble<'a, 'b>(words: &'b [&'a str]) -> Result<(u64, u64, &'b [&'a str]), Unreadable> {
     match words {
-        ["scramble", v, w, rest @ ..] => Ok((number(v)?, number(w)?, rest)),
+        ["scramble", x_word, y_word, rest @ ..] => Ok((number(x_word)?, number(y_word)?, rest)),
         _ => Ok((0, 0, words)),
     }
 }

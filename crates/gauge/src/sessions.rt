@@ -3,9 +3,11 @@ use crate::answers::Reply;
 use crate::commands::{Kinds, Verb, read_call};
 use crate::faults::Unreadable;
 use crate::lines::{Line, MOST_LINES, line_of, whole_lines};
-use crate::map_pages::{GaugeMap, MapSheet, read_map};
+use crate::map_pages::read_map;
 use crate::plan_pages::{GaugePlan, PlanPage, read_plan};
-use std::alloc::{AllocError, Global};
+use maps::Map;
+use std::alloc::AllocError;
+use std::rt::Files;
 use survey::{Answer, Call, replay};
 
 // What a line is answered, as far as that is known before the calls are made.
@@ -18,17 +20,20 @@ enum Due {
 
 // The opening as far as it came, the calls, and what each line is answered.
 #[derive(Drop)]
-struct Session {
-    heap: Global,
+struct Session<'r, R> {
+    rt: &'r R,
     plan: Option<PlanPage>,
-    map: Option<MapSheet>,
-    calls: Vec<Call<GaugePlan, GaugeMap>>,
+    map: Option<Map>,
+    calls: Vec<Call<GaugePlan, Map>>,
     dues: Vec<Due>,
 }
 
 // What is answered to the lines of an input.
-pub(crate) fn replies(heap: Global, input: &[u8]) -> Result<Vec<Reply>, AllocError> {
-    let mut session = Session::new(heap);
+pub(crate) fn replies<R: Files + AllocGlobal>(
+    rt: &R,
+    input: &[u8],
+) -> Result<Vec<Reply>, AllocError> {
+    let mut session = Session::new(rt);
     let lines = whole_lines(input).split(|byte| *byte == b'\n');
     for (before, line) in lines.take(MOST_LINES).enumerate() {
         session.hear(before.saturating_add(1), line_of(line))?;
@@ -36,14 +41,14 @@ pub(crate) fn replies(heap: Global, input: &[u8]) -> Result<Vec<Reply>, AllocErr
     session.settle()
 }
 
-impl Session {
-    fn new(heap: Global) -> Session {
+impl<'r, R: Files + AllocGlobal> Session<'r, R> {
+    fn new(rt: &'r R) -> Session<'r, R> {
         Session {
-            heap,
+            rt,
             plan: None,
             map: None,
-            calls: Vec::new(heap),
-            dues: Vec::new(heap),
+            calls: Vec::new(rt.alloc()),
+            dues: Vec::new(rt.alloc()),
         }
     }
 
@@ -73,7 +78,7 @@ impl Session {
         let words: Vec<&str> = text
             .split(' ')
             .filter(|word| !word.is_empty())
-            .collect(self.heap)?;
+            .collect(self.rt.alloc())?;
         match words.as_slice() {
             [] => Ok(None),
             [verb, words @ ..] => {
@@ -96,9 +101,9 @@ impl Session {
     // The kinds of the opening, once it is complete.
     fn kinds(&self) -> Option<Kinds> {
         match (&self.plan, &self.map) {
-            (Some(plan), Some(map)) => Some(Kinds {
-                plan: plan.kind,
-                map: map.kind,
+            (Some(page), Some(map)) => Some(Kinds {
+                plan: page.kind,
+                map: map.kind(),
             }),
             _ => None,
         }
@@ -108,7 +113,7 @@ impl Session {
         if self.plan.is_some() {
             return Err(Unreadable::Open);
         }
-        let page = read_plan(self.heap, words, None)?;
+        let page = read_plan(self.rt, words, None)?;
         self.plan = Some(page);
         Ok(Due::Now(Reply::Plan))
     }
@@ -117,13 +122,13 @@ impl Session {
         if self.plan.is_none() {
             return Err(Unreadable::NotOpen);
         }
-        let sheet = read_map(self.heap, words, None)?;
-        self.map = Some(sheet);
+        let map = read_map(self.rt, words, None)?;
+        self.map = Some(map);
         Ok(Due::Now(Reply::Opened))
     }
 
     fn call(&mut self, kinds: Kinds, verb: Verb, words: &[&str]) -> Result<Due, Unreadable> {
-        let call = read_call(self.heap, kinds, verb, words)?;
+        let call = read_call(self.rt, kinds, verb, words)?;
         let index = self.calls.len();
         self.calls.push(call)?;
         Ok(Due::Call(index))
@@ -132,19 +137,19 @@ impl Session {
     // Makes the calls, if the opening is complete, and answers every line.
     fn settle(self) -> Result<Vec<Reply>, AllocError> {
         let Session {
-            heap,
+            rt,
             plan,
             map,
             calls,
             dues,
         } = self;
         let answers = match (plan, map) {
-            (Some(page), Some(sheet)) => replay(heap, page.plan, sheet.map, calls)?,
-            _ => Vec::new(heap),
+            (Some(page), Some(map)) => replay(rt.alloc(), page.plan, map, calls)?,
+            _ => Vec::new(rt.alloc()),
         };
         dues.iter()
             .map(|due| reply_of(*due, &answers))
-            .collect(heap)
+            .collect(rt.alloc())
     }
 }
 

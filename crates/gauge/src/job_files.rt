@@ -1,0 +1,37 @@
+// Job files that commands name.
+ghost use Rattle.std.specs.Prelude.{MatchResult};
+ghost use Rattle.jobs.specs.Jobs.{IsJob};
+ghost use Rattle.gauge.specs.Jobs.{TellsOf};
+
+use crate::faults::Unreadable;
+use jobs::Recipe;
+use std::alloc::Global;
+use std::fs::File;
+use std::io;
+use std::io::Read;
+use std::rt::Files;
+
+// The most bytes that are read of a file, one more than a job can have.
+const FILE_BYTES: u64 = 65536;
+
+// The recipe of the job file at a path.
+pub(crate) fn read_job<R: Files + AllocGlobal>(rt: &R, path: &str) -> Result<Recipe, Unreadable> {
+    let bytes = read_file(rt, path)?;
+    recipe_of(rt.alloc(), &bytes)
+}
+
+fn read_file<R: Files + AllocGlobal>(rt: &R, path: &str) -> io::Result<Vec<u8>> {
+    let mut bytes = Vec::new(rt.alloc());
+    let mut file = File::open(rt, path)?.take(FILE_BYTES);
+    file.read_to_end(&mut bytes)?;
+    Ok(bytes)
+}
+
+// The recipe that a job lays down.
+fn recipe_of(heap: Global, job: &[u8]) -> Result<Recipe, Unreadable>
+    ensures { MatchResult result (IsJob job.now) (TellsOf job.now) }
+{
+    let mut recipe = Recipe::new(heap);
+    recipe.read(heap, job)?;
+    Ok(recipe)
+}
