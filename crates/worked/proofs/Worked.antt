@@ -1,0 +1,90 @@
+-- The worked figures hold.
+use Rattle.std.proofs.Common.{◌≡◌, ℕ, zero, suc, rules, [], ◌∷◌, refl, MatchResult, Result, Ok, Err, inl, inr, arith, subst, sym, ap, ◌∙◌}
+use Rattle.nets.specs.Places.{Place, IsNet, held}
+use Rattle.nets.specs.Plans.{Placed}
+use Rattle.nets.specs.Refusals.{refused, place_told}
+use Rattle.nets.specs.declared.faults.PlaceFault.{PlaceFault}
+use Rattle.nets.proofs.Intervals.{same_level}
+use Rattle.audit.specs.Audits.{FirstEmpty, Audited}
+use Rattle.audit.specs.Refusals.{audit_told}
+use Rattle.audit.specs.declared.faults.AuditFault.{AuditFault}
+use Rattle.sequences.specs.Sequences.{hammersley_net}
+use Rattle.sequences.proofs.AreNets.{hammersley_is_net}
+use Rattle.coats.specs.Terms.{IsMap}
+use Rattle.boxes.specs.Rows.{boxes_terms}
+use Rattle.survey.specs.Recipes.{IsRecipe}
+use Rattle.survey.specs.Life.{Lived}
+use Rattle.worked.specs.Figures.{Figures, quarter, grid, plan, opening, two_takes, refused_change}
+
+past : (r : Result Place PlaceFault) → Placed 2 (hammersley_net 2) 4 r → MatchResult r (λ _. ⊥) (λ e. place_told e ≡ refused 11 (4 ∷ []))
+past (Ok p) h = omega (arith, h.0)
+past (Err e) h = h.0.1
+
+grid_empty : held 2 0 1 grid ≡ 0
+unfolding held
+grid_empty = refl
+
+grid_full : held 2 0 0 grid ≡ 2
+unfolding held
+grid_full = refl
+
+grid_no_net : IsNet 2 grid → ⊥
+grid_no_net net = omega (arith, net.one 0 0 1 (omega arith) (omega arith) (omega arith))
+
+grid_first : (d n : ℕ) → FirstEmpty 2 grid d n → (d ≡ 0) × (n ≡ 1)
+grid_first (suc d) n first = absurd (first.shallowest 0 1 (omega arith) (omega arith) grid_empty)
+grid_first zero zero first = omega (arith, first.empty, grid_full)
+grid_first zero (suc zero) first = (refl, refl)
+grid_first zero (suc (suc n)) first = absurd (first.smallest 1 (omega arith) grid_empty)
+
+refused_grid : (r : Result ℕ AuditFault) → Audited grid r → MatchResult r (λ _. ⊥) (λ e. audit_told e ≡ refused 13 (0 ∷ 1 ∷ []))
+refused_grid (Ok n) (m, x) = grid_no_net (subst (λ k. IsNet k grid) (same_level m 2 (sym x.net.long)) x.net)
+refused_grid (Err e) (inl w) = absurd (w.never 2 (omega arith) (omega arith))
+refused_grid (Err e) (inr (m, x)) =
+    let first : FirstEmpty 2 grid x.d x.n = subst (λ k. FirstEmpty k grid x.d x.n) (same_level m 2 (sym x.long)) x.first in
+    let is = grid_first x.d x.n first in
+    x.tells ∙ ap (λ d. refused 13 (d ∷ x.n ∷ [])) is.0 ∙ ap (λ n. refused 13 (0 ∷ n ∷ [])) is.1
+
+quarter_map : IsMap (boxes_terms (quarter ∷ []))
+quarter_map = record { sides = search rules; light = omega arith }
+
+recipe : IsRecipe opening
+recipe = record { plan = hammersley_is_net 2 (omega arith); map = quarter_map }
+
+takes : Lived opening two_takes
+takes = ((((recipe, refl, refl), refl, refl), refl, refl), refl, refl)
+
+change : Lived opening refused_change
+change =
+    ((
+      (
+        (
+          ((((recipe, refl, refl), refl, refl), refl, refl), (refl, hammersley_is_net 3 (omega arith)), refl),
+          ((plan 3, refl), quarter_map),
+          refl,
+        ),
+        (plan 3, boxes_terms (quarter ∷ []), refl),
+        refl,
+      ),
+      refl,
+      refl,
+    )
+    )
+
+pub figures : Figures
+figures = record {
+  hammersley_2 = refl;
+  past_the_last = past;
+  sobol_2 = refl;
+  sobol_3 = refl;
+  scramble_low = refl;
+  scramble_high = refl;
+  shift = refl;
+  quarter_weight = refl;
+  quarter_inside = refl;
+  quarter_outside = refl;
+  half_weight = refl;
+  grid_refused = refused_grid;
+  takes = takes;
+  change = change;
+}
