@@ -8,7 +8,7 @@ use Rattle.audit.specs.declared.faults.NotNet.{NotNet}
 use Rattle.audit.specs.Audits.{NoNet, Judged, Audited}
 
 -- a net is not refused as none
-not_refused : (m k : ℕ) (ps : List Place) (t : Told) → IsNet m ps → NoNet k ps t → ⊥
+pub not_refused : (m k : ℕ) (ps : List Place) (t : Told) → IsNet m ps → NoNet k ps t → ⊥
 not_refused m k ps t net e =
     let first = e.first in
     let here : IsNet k ps = subst (λ z. IsNet z ps) (same_level m k (sym net.long ∙ e.long)) net in

@@ -1,3 +1,4 @@
 pub mod Refusals
 pub mod Audits
 pub mod Loads
+pub mod Texts

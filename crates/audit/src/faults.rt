@@ -1,9 +1,12 @@
 // How the audit and loading refuse.
-ghost use Rattle.std.specs.Prelude.{◌≡◌};
+ghost use Rattle.std.specs.Prelude.{◌≡◌, Some};
 ghost use Rattle.audit.specs.declared.faults.AuditFault.TheVariants as of_audit;
 ghost use Rattle.audit.specs.declared.faults.LoadFault.TheVariants as of_load;
+ghost use Rattle.audit.specs.Texts.{audit_text};
 
 use std::alloc::AllocError;
+use std::error::Error;
+use std::fmt;
 
 // 13: the list is no net. This is the smallest depth that has an empty interval, and the smallest
 // empty one there.
@@ -25,6 +28,22 @@ pub enum LoadFault {
     Audit(AuditFault),
     Memory,
 }
+
+// Written by hand, since the text is proved.
+impl fmt::Display for AuditFault {
+    ghost output = { λ e. Some (audit_text e) };
+
+    fn fmt<W: fmt::Write>(&self, f: &mut fmt::Formatter<W>) -> fmt::Result {
+        match self {
+            AuditFault::Length(size) => write!(f, "refused 12 place {size}"),
+            AuditFault::Empty(NotNet { depth, interval }) => {
+                write!(f, "refused 13 depth {depth} interval {interval}")
+            }
+        }
+    }
+}
+
+impl Error for AuditFault {}
 
 // Written by hand, since a derived conversion has no contract.
 impl From<NotNet> for AuditFault {

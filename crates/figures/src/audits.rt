@@ -14,8 +14,6 @@ fn small_lists(rt: HostRuntime) {
     let net = [(0, 0), (16384, 32768), (32768, 16384), (49152, 49152)];
     assert_eq!(rt; audit(&net), Ok(12));
     assert_eq!(rt; audit(&[(7, 9)]), Ok(1));
-    let grid = [(0, 0), (0, 32768), (32768, 0), (32768, 32768)];
-    assert_eq!(rt; audit(&grid), Err(not_net(0, 1)));
     // The last place moved: within its intervals, down to y = 0, and left to x = 32768.
     let near = [(0, 0), (16384, 32768), (32768, 16384), (65535, 65535)];
     assert_eq!(rt; audit(&near), Ok(12));

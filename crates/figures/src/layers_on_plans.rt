@@ -8,14 +8,15 @@ use std::test::Fail;
 
 #[test]
 fn single_layers(rt: HostRuntime) -> Result<(), Fail> {
-    assert_eq!(rt;
-        Shift::new(Hammersley::new(0)?, 1, 65535).place(0),
-        Ok((1, 65535))
-    );
-    // Word 4 flips the second bit below a first bit of 0.
-    let scrambled = Scramble::new(Hammersley::new(1)?, 4, 0);
-    assert_eq!(rt; scrambled.place(0), Ok((16384, 0)));
-    assert_eq!(rt; scrambled.place(1), Ok((32768, 32768)));
+    let shifted = Shift::new(Hammersley::new(1)?, 65535, 3);
+    assert_eq!(rt; shifted.place(0), Ok((65535, 3)));
+    assert_eq!(rt; shifted.place(1), Ok((32767, 32771)));
+    // The last and the first node of the sixth bit, whose weight is 1024.
+    let scrambled = Scramble::new(Hammersley::new(5)?, 1 << 63, 1 << 32);
+    assert_eq!(rt; scrambled.place(0), Ok((0, 1024)));
+    assert_eq!(rt; scrambled.place(31), Ok((64512, 63488)));
+    // The word's lowest bit is no node.
+    assert_eq!(rt; Scramble::new(Hammersley::new(0)?, 1, 2).place(0), Ok((0, 32768)));
     assert_eq!(rt; Swap::new(Hammersley::new(2)?).place(1), Ok((32768, 16384)));
     assert_eq!(rt;
         MaybeSwap::new(Hammersley::new(2)?, true).place(1),

@@ -1,14 +1,8 @@
-// Places of the two sequences, worked by hand.
-use nets::{Net, Place, PlaceFault};
+// The ends of the two sequences, worked by hand.
+use nets::{Net, PlaceFault};
 use sequences::{Hammersley, LevelFault, Sobol};
 use std::process::Abort;
 use std::test::Fail;
-
-fn has_places<P: Net>(rt: &impl Abort, plan: &P, places: &[Place]) {
-    for (i, place) in (0..4096).zip(places) {
-        assert_eq!(rt; plan.place(i), Ok(*place));
-    }
-}
 
 fn ends_at<P: Net>(rt: &impl Abort, plan: &P, last: u32, x: u16, y: u16) {
     assert_eq!(rt; plan.place(0), Ok((0, 0)));
@@ -19,21 +13,15 @@ fn ends_at<P: Net>(rt: &impl Abort, plan: &P, last: u32, x: u16, y: u16) {
 }
 
 #[test]
-fn hammersley_places(rt: HostRuntime) -> Result<(), Fail> {
-    let places = [(0, 0), (16384, 32768), (32768, 16384), (49152, 49152)];
-    has_places(&rt, &Hammersley::new(2)?, &places);
+fn hammersley_ends(rt: HostRuntime) -> Result<(), Fail> {
     ends_at(&rt, &Hammersley::new(0)?, 0, 0, 0);
     ends_at(&rt, &Hammersley::new(1)?, 1, 32768, 32768);
-    ends_at(&rt, &Hammersley::new(2)?, 3, 49152, 49152);
     ends_at(&rt, &Hammersley::new(12)?, 4095, 65520, 65520);
     Ok(())
 }
 
 #[test]
-fn sobol_places(rt: HostRuntime) -> Result<(), Fail> {
-    let places = [(0, 0), (32768, 32768), (16384, 49152), (49152, 16384)];
-    has_places(&rt, &Sobol::new(2)?, &places);
-    assert_eq!(rt; Sobol::new(3)?.place(5), Ok((40960, 8192)));
+fn sobol_ends(rt: HostRuntime) -> Result<(), Fail> {
     ends_at(&rt, &Sobol::new(0)?, 0, 0, 0);
     ends_at(&rt, &Sobol::new(1)?, 1, 32768, 32768);
     // Bit k of the last y is C(12, k + 1) modulo 2, which is 1 for k = 3, 7 and 11.

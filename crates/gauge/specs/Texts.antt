@@ -1,7 +1,7 @@
 -- The texts that are printed.
 use Rattle.std.specs.Prelude.{ℕ, List, ◌++◌, codes, decimal, Ok, Err}
 use Rattle.std.specs.Fmt.{signed_decimal}
-use Rattle.audit.specs.declared.faults.AuditFault.TheVariants.{Length, Empty}
+use Rattle.audit.specs.Texts.{audit_text}
 use Rattle.coats.specs.declared.faults.MapFault.TheVariants as of_map
 use Rattle.jobs.specs.Refusals.{refusal_told}
 use Rattle.jobs.specs.Texts.{told_text}
@@ -24,8 +24,7 @@ fault_text of_line.Words = codes "cannot read its words"
 fault_text of_line.File = codes "cannot read the file"
 fault_text (of_line.Job r) = told_text (refusal_told r)
 fault_text (of_line.Level m) = codes "refused 4 level " ++ decimal m
-fault_text (of_line.Points (Length n)) = codes "refused 12 place " ++ decimal n
-fault_text (of_line.Points (Empty e)) = codes "refused 13 depth " ++ (decimal e.depth ++ (codes " interval " ++ decimal e.interval))
+fault_text (of_line.Points e) = audit_text e
 fault_text (of_line.Map of_map.Count) = codes "refused 7"
 fault_text (of_line.Map (of_map.Row i)) = codes "refused 8 row " ++ decimal i
 fault_text (of_line.Map of_map.Weight) = codes "refused 9"

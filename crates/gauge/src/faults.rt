@@ -7,7 +7,7 @@ ghost use Rattle.gauge.specs.declared.faults.Unreadable.TheVariants as of_line;
 ghost use Rattle.gauge.specs.Jobs.{Tells};
 ghost use Rattle.gauge.specs.Texts.{fault_text};
 
-use audit::{AuditFault, LoadFault, NotNet};
+use audit::{AuditFault, LoadFault};
 use coats::MapFault;
 use jobs::{JobFault, Refusal};
 use nets::LevelFault;
@@ -53,10 +53,7 @@ impl fmt::Display for Unreadable {
             Unreadable::File => write!(f, "cannot read the file"),
             Unreadable::Job(refusal) => write!(f, "{refusal}"),
             Unreadable::Level(level) => write!(f, "refused 4 level {level}"),
-            Unreadable::Points(AuditFault::Length(size)) => write!(f, "refused 12 place {size}"),
-            Unreadable::Points(AuditFault::Empty(NotNet { depth, interval })) => {
-                write!(f, "refused 13 depth {depth} interval {interval}")
-            }
+            Unreadable::Points(fault) => write!(f, "{fault}"),
             Unreadable::Map(MapFault::Count) => write!(f, "refused 7"),
             Unreadable::Map(MapFault::Row(row)) => write!(f, "refused 8 row {row}"),
             Unreadable::Map(MapFault::Weight) => write!(f, "refused 9"),

@@ -4,15 +4,12 @@ ghost use Rattle.jobs.specs.Jobs.{IsJob};
 ghost use Rattle.gauge.specs.Jobs.{TellsOf};
 
 use crate::faults::Unreadable;
-use jobs::Recipe;
+use jobs::{LONGEST, Recipe};
 use std::alloc::Global;
 use std::fs::File;
 use std::io;
 use std::io::Read;
 use std::rt::Files;
-
-// The most bytes that are read of a file, one more than a job can have.
-const FILE_BYTES: u64 = 65536;
 
 // The recipe of the job file at a path.
 pub(crate) fn read_job<R: Files + AllocGlobal>(rt: &R, path: &str) -> Result<Recipe, Unreadable> {
@@ -20,9 +17,10 @@ pub(crate) fn read_job<R: Files + AllocGlobal>(rt: &R, path: &str) -> Result<Rec
     recipe_of(rt.alloc(), &bytes)
 }
 
+// Reads at most one byte more than the longest job has.
 fn read_file<R: Files + AllocGlobal>(rt: &R, path: &str) -> io::Result<Vec<u8>> {
     let mut bytes = Vec::new(rt.alloc());
-    let mut file = File::open(rt, path)?.take(FILE_BYTES);
+    let mut file = File::open(rt, path)?.take(LONGEST as u64 + 1);
     file.read_to_end(&mut bytes)?;
     Ok(bytes)
 }

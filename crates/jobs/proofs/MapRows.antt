@@ -20,7 +20,8 @@ use Rattle.steps.specs.declared.row.Step.{Step}
 use Rattle.cells.specs.Cells.{cell, cells_terms}
 use Rattle.maps.specs.declared.map.MapKind.TheVariants as of_kind
 use Rattle.maps.specs.declared.map.Map.{Map}
-use Rattle.jobs.specs.Checks.{First, Passes, RowsRefused, map_checks}
+use Rattle.jobs.specs.Checks.{First, Passes, map_checks}
+use Rattle.jobs.specs.Findings.{RowsRefused}
 use Rattle.jobs.specs.Layout.{MapLaid, Shaped, BoxShape, StepShape, CellShape, boxes, x_steps, y_steps, cell_row, cells}
 
 -- one row more is gathered

@@ -3,7 +3,7 @@ use Rattle.std.proofs.Common.{◌≡◌, ℕ, [], ◌∷◌, ◌*◌, ◌^◌, �
 use Rattle.nets.specs.Bytes.{laid}
 use Rattle.nets.specs.Places.{IsNet}
 use Rattle.nets.specs.Refusals.{Told, refused, no_memory}
-use Rattle.nets.proofs.Intervals.{held_from_net, same_level}
+use Rattle.nets.proofs.Intervals.{same_level}
 use Rattle.audit.specs.declared.audits.Accepted.{Accepted}
 use Rattle.audit.specs.declared.faults.NotNet.{NotNet}
 use Rattle.audit.specs.declared.faults.AuditFault.{AuditFault}
@@ -11,7 +11,8 @@ use Rattle.audit.specs.declared.faults.AuditFault.TheVariants as of_audit
 use Rattle.audit.specs.Audits.{FirstEmpty, NoNet, RefusedBytes, AuditedBytes}
 use Rattle.audit.specs.Loads.{NoMemory}
 use Rattle.audit.specs.Refusals.{net_told, audit_told}
-use Rattle.jobs.specs.Checks.{IsFound}
+use Rattle.audit.proofs.Accepts.{not_refused}
+use Rattle.jobs.specs.Findings.{IsFound}
 
 -- bytes for the places of one level are those of no other
 pub level_of : (k m n : ℕ) → n ≡ 4 * 2 ^ k → n ≡ 4 * 2 ^ m → k ≡ m
@@ -27,7 +28,7 @@ module _ (m : ℕ) (low : m ≤ 12) (bytes : List ℕ) (long : length bytes ≡ 
       let n : x.n ≡ e.interval = cc in
       subst (λ z. IsFound z (laid bytes) e) same (record {
         first = subst (λ z. FirstEmpty k (laid bytes) z e.interval) d (subst (λ z. FirstEmpty k (laid bytes) x.d z) n x.first);
-        none = λ net. omega (arith, x.first.empty, held_from_net k (laid bytes) net x.d x.n x.first.depth x.first.number);
+        none = λ net. not_refused k k (laid bytes) (net_told e) net x;
       })
 
   pub found : (e : NotNet) → RefusedBytes bytes (net_told e) → IsFound m (laid bytes) e
@@ -36,9 +37,7 @@ module _ (m : ℕ) (low : m ≤ 12) (bytes : List ℕ) (long : length bytes ≡ 
 
 net_passes : (m : ℕ) (bytes : List ℕ) (t : Told) → m ≤ 12 → length bytes ≡ 4 * 2 ^ m → IsNet m (laid bytes) → RefusedBytes bytes t → ⊥
 net_passes m bytes t low long net (inl w) = w.never m low long
-net_passes m bytes t low long net (inr (k, s, x)) =
-    let here : IsNet k (laid bytes) = subst (λ z. IsNet z (laid bytes)) (sym (level_of k m _ s long)) net in
-    omega (arith, x.first.empty, held_from_net k (laid bytes) here x.d x.n x.first.depth x.first.number)
+net_passes m bytes t low long net (inr (k, s, x)) = not_refused m k (laid bytes) t net x
 
 refusal_told : (e : AuditFault) → audit_told e ≡ no_memory → ⊥
 refusal_told (of_audit.Length n) h = grind (arith, h)

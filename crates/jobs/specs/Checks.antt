@@ -2,17 +2,12 @@
 use Rattle.std.specs.Prelude.{◌≡◌, ℕ, ◌+◌, ◌*◌, ◌≤◌, ◌⊎◌, List, [], ◌∷◌, ◌++◌, length, All, ⊤}
 use Rattle.nets.specs.Places.{Place, IsNet}
 use Rattle.nets.specs.Refusals.{Told, refused, no_memory}
-use Rattle.audit.specs.declared.faults.NotNet.{NotNet}
 use Rattle.audit.specs.Audits.{FirstEmpty}
-use Rattle.coats.specs.declared.faults.MapFault.{MapFault}
 use Rattle.coats.specs.Refusals.{FirstOut}
 use Rattle.coats.specs.Terms.{weight}
 use Rattle.boxes.specs.Rows.{BoxBounds, boxes_terms}
 use Rattle.steps.specs.Rows.{StepBounds, steps_terms}
 use Rattle.cells.specs.Cells.{cell, cells_terms}
-use Rattle.maps.specs.declared.map.MapKind.{MapKind}
-use Rattle.jobs.specs.Refusals.{rows_told}
-use Rattle.jobs.specs.Rows.{row_of}
 use Rattle.jobs.specs.Layout.{InPlace, offset, section, kind, level, swap, plan_size, places, Shaped, boxes, x_steps, y_steps, cells}
 
 -- when a job passes, and what may be told if it does not
@@ -44,11 +39,6 @@ directory_checks job =
     ∷ check 2 0 4 (InPlace job 1)
     ∷ check 2 0 8 (InPlace job 2)
     ∷ []
-
--- what the audit finds of places that are no net
-pub record IsFound (m : ℕ) (ps : List Place) (e : NotNet) : Type 0 where
-  pub first : FirstEmpty m ps e.depth e.interval
-  pub none : IsNet m ps → ⊥
 
 -- 13 tells the first empty interval too
 abbrev pub net_check : (start : ℕ) (bytes : List ℕ) → Check
@@ -85,10 +75,6 @@ map_checks start bytes =
     ∷ check 9 3 start (kind bytes ≡ 1 → weight (steps_terms (x_steps bytes) (y_steps bytes)) ≤ 16384)
     ∷ check 9 3 start (kind bytes ≡ 2 → weight (cells_terms (cell (cells bytes))) ≤ 16384)
     ∷ []
-
--- a fault in the rows of a map section of a kind, wherever it starts; there are no more than 32 rows
-abbrev pub RowsRefused : MapKind → (bytes : List ℕ) → MapFault → Type 0
-RowsRefused k bytes e = (row_of e ≤ 32) × ((start : ℕ) → Refused (map_checks start bytes) (rows_told start k e))
 
 -- those of the sections of a job
 abbrev pub plan_checks_of : (job : List ℕ) → List Check

@@ -1,8 +1,10 @@
-pub mod Codes
 pub mod Layout
-pub mod Rows
-pub mod Texts
 pub mod Refusals
 pub mod Checks
-pub mod Extents
 pub mod Jobs
+pub mod Texts
+-- words of the crate's own parts
+pub mod Codes
+pub mod Rows
+pub mod Extents
+pub mod Findings

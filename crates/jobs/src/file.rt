@@ -18,7 +18,7 @@ use std::alloc::Global;
 const DIRECTORY: usize = 12;
 
 // The most bytes of a job.
-const LONGEST: usize = 65535;
+pub const LONGEST: usize = 65535;
 
 // Where a section lies in the file.
 #[derive(Clone, Copy, Debug)]

@@ -16,6 +16,7 @@ pub use faults::{
     DirectoryFault, JobFault, LayerSectionFault, MapSectionFault, PlanSectionFault, PointsAt,
     RowsAt,
 };
+pub use file::LONGEST;
 pub use layer_numbers::{LayerNumbers, LayeredPlan};
 pub use recipe::Recipe;
 pub use refusal::Refusal;

@@ -3,7 +3,8 @@ ghost use Rattle.std.specs.Prelude.{◌≡◌, ◌<◌, ◌≤◌, map, slice_in
 ghost use Rattle.std.specs.List.{range_with_len};
 ghost use Rattle.cells.specs.Tables.{held};
 ghost use Rattle.maps.specs.declared.map.MapKind.TheVariants as of_kind;
-ghost use Rattle.jobs.specs.Checks.{Passes, Refused, RowsRefused, map_checks};
+ghost use Rattle.jobs.specs.Checks.{Passes, Refused, map_checks};
+ghost use Rattle.jobs.specs.Findings.{RowsRefused};
 ghost use Rattle.jobs.specs.Layout.{MapLaid, BoxesLaid, StepsLaid, CellsLaid, Shape, Shaped, BoxShape, StepShape, CellShape, box_at as box_of, boxes as boxes_of, step_at as step_of, x_steps, y_steps, cell_row as cell_row_of, cells as cells_of};
 ghost use Rattle.jobs.specs.Refusals.{map_section_told};
 ghost use Rattle.jobs.specs.Rows.{row_of};
@@ -35,7 +36,7 @@ const CELLS_SIZE: usize = 129;
 pub(crate) fn read_map(heap: Global, start: u16, bytes: &[u8]) -> Result<Map, MapSectionFault>
     ensures { MatchResult result (λ m. MapLaid bytes.now m × Passes (map_checks start bytes.now)) (λ e. Refused (map_checks start bytes.now) (map_section_told e)) }
 {
-    let kind = kind_of(bytes).ok_or(MapSectionFault::Layout(start))?;
+    let kind = map_kind(bytes).ok_or(MapSectionFault::Layout(start))?;
     let map = read_rows(heap, kind, bytes).map_err(
         |fault|
             requires { row_of fault ≤ 32 }
@@ -45,7 +46,7 @@ pub(crate) fn read_map(heap: Global, start: u16, bytes: &[u8]) -> Result<Map, Ma
 }
 
 // The kind of a section that has no more rows than the kind allows, and is as long as they are.
-fn kind_of(bytes: &[u8]) -> Option<MapKind>
+fn map_kind(bytes: &[u8]) -> Option<MapKind>
     ensures { MatchOption result (Shaped bytes.now → ⊥) (λ k. Shape k bytes.now) }
 {
     let first = usize::from(byte_at(bytes, 1));

@@ -3,7 +3,7 @@ ghost use Rattle.std.specs.Prelude.{◌≡◌, ◌*◌, ◌^◌, ◌≤◌, leng
 ghost use Rattle.nets.specs.Bytes.{laid};
 ghost use Rattle.nets.specs.Places.{IsNet};
 ghost use Rattle.plans.specs.declared.plan.PlanKind.TheVariants as of_kind;
-ghost use Rattle.jobs.specs.Checks.{IsFound};
+ghost use Rattle.jobs.specs.Findings.{IsFound};
 ghost use Rattle.jobs.specs.Codes.{plan_code};
 ghost use Rattle.jobs.specs.Layout.{PlanHead, kind, level, plan_size, places as placed};
 
@@ -12,7 +12,6 @@ use audit::{AuditFault, LoadFault, NotNet, PointList, audit_bytes};
 use little_endian::byte_at;
 use nets::Level;
 use plans::{Plan, PlanKind};
-use sequences::{Hammersley, Sobol};
 use std::alloc::{AllocError, Global};
 
 // The bytes before the places.
@@ -37,7 +36,7 @@ impl PlanSection<'_> {
     pub(crate) fn read(start: u16, bytes: &[u8]) -> Result<PlanSection<'_>, PlanSectionFault>
         ensures { MatchResult result (λ s. (s.bytes.now ≡ bytes.now) × Passes (plan_checks start bytes.now)) (λ e. First (plan_checks start bytes.now) (plan_told e)) }
     {
-        let kind = kind_of(bytes).ok_or(PlanSectionFault::Kind(start))?;
+        let kind = plan_kind(bytes).ok_or(PlanSectionFault::Kind(start))?;
         let level = level_of(bytes).ok_or(PlanSectionFault::Level(start))?;
         if bytes.len() != size_of(kind, level) {
             return Err(PlanSectionFault::Length(start));
@@ -50,20 +49,19 @@ impl PlanSection<'_> {
     pub(crate) fn plan(&self, heap: Global) -> Result<Plan, AllocError>
         ensures { IfOk result (PlanLaid self.now.bytes.now) }
     {
-        let level = self.level.get();
+        let level = self.level;
         match self.kind {
-            PlanKind::Hammersley => Ok(Plan::Hammersley(Hammersley::new(level).unwrap())),
-            PlanKind::Sobol => Ok(Plan::Sobol(Sobol::new(level).unwrap())),
-            PlanKind::Points => Ok(Plan::Points(point_list(
-                heap,
-                self.level,
-                &self.bytes[HEAD..],
-            )?)),
+            PlanKind::Hammersley => Ok(Plan::Hammersley(level.into())),
+            PlanKind::Sobol => Ok(Plan::Sobol(level.into())),
+            PlanKind::Points => {
+                let list = point_list(heap, level, &self.bytes[HEAD..])?;
+                Ok(Plan::Points(list))
+            }
         }
     }
 }
 
-fn kind_of(bytes: &[u8]) -> Option<PlanKind>
+fn plan_kind(bytes: &[u8]) -> Option<PlanKind>
     ensures { MatchOption result ((1 ≤ length bytes.now) → (kind bytes.now ≤ 2) → ⊥) (λ k. (1 ≤ length bytes.now) × (kind bytes.now ≡ plan_code k)) }
 {
     match bytes.first()? {

@@ -3,7 +3,7 @@ ghost use Rattle.std.specs.Prelude.{Some};
 ghost use Rattle.netaudit.specs.Texts.{text};
 ghost use Rattle.netaudit.specs.Verdicts.{Vetted};
 
-use audit::{Accepted, AuditFault, NotNet, audit_bytes};
+use audit::{Accepted, AuditFault, audit_bytes};
 use std::fmt;
 
 // The bytes of the longest list, of level 12.
@@ -46,10 +46,7 @@ impl fmt::Display for Verdict {
                     "places {places}\nlevel {level}\nintervals {intervals}\nnet"
                 )
             }
-            Verdict::Refused(AuditFault::Length(size)) => write!(f, "refused 12 place {size}"),
-            Verdict::Refused(AuditFault::Empty(NotNet { depth, interval })) => {
-                write!(f, "refused 13 depth {depth} interval {interval}")
-            }
+            Verdict::Refused(fault) => write!(f, "{fault}"),
             Verdict::TooLong => write!(f, "refused 12 more than {LONGEST} bytes"),
         }
     }

@@ -12,7 +12,7 @@ use jobs::Recipe;
 use std::alloc::{AllocError, Global};
 
 // The fewest bytes of a place for a text.
-const ROOM: usize = 96;
+pub const ROOM: usize = 96;
 
 // Reads a job and measures the whole panel.
 #[tactic(auto, using(crate::proofs::Told::refused_or_wanting))]

@@ -9,7 +9,7 @@ pub mod panels;
 mod texts;
 mod writing;
 
-pub use examination::{examine, write_report};
+pub use examination::{ROOM, examine, write_report};
 pub use faults::TextFault;
 pub use measured::Measured;
 pub use outcome::Outcome;

@@ -39,10 +39,18 @@ impl<P> Sequence<P> {
         ensures { OfLevel (λ p. p.level.m) level result }
     {
         let level = Level::try_from(level)?;
-        Ok(Sequence {
+        Ok(level.into())
+    }
+}
+
+impl<P> From<Level> for Sequence<P> {
+    ghost from_gives = { λ level r. r.level ≡ level };
+
+    fn from(level: Level) -> Self {
+        Sequence {
             level,
             points: PhantomData,
-        })
+        }
     }
 }
 
