@@ -12,7 +12,7 @@ pub not_refused : (m k : ℕ) (ps : List Place) (t : Told) → IsNet m ps → No
 not_refused m k ps t net e =
     let first = e.first in
     let here : IsNet k ps = subst (λ z. IsNet z ps) (same_level m k (sym net.long ∙ e.long)) net in
-    omega (arith, first.empty, held_from_net k ps here e.d e.n first.depth first.number)
+    omega (arith, first.smallest.1, held_from_net k ps here e.d e.n first.depth first.smallest.0)
 
 -- the examination accepts a net of its level
 pub net_judged : (m : ℕ) (ps : List Place) (r : Result ℕ NotNet) → IsNet m ps → Judged m ps r → r ≡ Ok ((m + 1) * 2 ^ m)

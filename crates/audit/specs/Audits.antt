@@ -17,17 +17,15 @@ abbrev pub First : (n : ℕ) (full clear : ℕ → Type 0) → Option ℕ → Ty
 First n full clear None = (k : ℕ) → k < n → full k
 First n full clear (Some i) = (i < n) × clear i × ((k : ℕ) → k < i → full k)
 
--- d is the smallest depth that has an empty interval, and n the smallest empty number there
-pub record FirstEmpty (m : ℕ) (ps : List Place) (d n : ℕ) : Type 0 where
-  pub depth : d ≤ m
-  pub number : n < 2 ^ m
-  pub empty : held m d n ps ≡ 0
-  pub smallest : (k : ℕ) → k < n → held m d k ps ≢ 0
-  pub shallowest : (e k : ℕ) → e < d → k < 2 ^ m → held m e k ps ≢ 0
-
 -- the first empty interval of depth d, if there is one
 abbrev pub FirstEmptyAt : (m d : ℕ) → List Place → Option ℕ → Type 0
 FirstEmptyAt m d ps = First (2 ^ m) (λ k. 1 ≤ held m d k ps) (λ k. held m d k ps ≡ 0)
+
+-- d is the smallest depth that has an empty interval, and n the smallest empty number there
+pub record FirstEmpty (m : ℕ) (ps : List Place) (d n : ℕ) : Type 0 where
+  pub depth : d ≤ m
+  pub smallest : FirstEmptyAt m d ps (Some n)
+  pub shallowest : (e : ℕ) → e < d → FirstEmptyAt m e ps None
 
 -- refused with 12: the length is no level's
 pub record WrongLength (each n : ℕ) (t : Told) : Type 0 where

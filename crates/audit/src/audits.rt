@@ -47,7 +47,7 @@ fn level_of(size: usize, each: usize) -> Option<Level>
     requires { each ≤ 4 }
     ensures { MatchOption result (NoLevel each size) (λ level. size ≡ each * 2 ^ level.m) }
 {
-    // A `for`: `find` proves by a file of answers, and a wrong range would then be refused there.
+    // A `for`, since `find` would need a proof file.
     for m in 0..=12 {
         if size == each << m {
             return Some(Level::try_from(m).unwrap());

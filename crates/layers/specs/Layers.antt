@@ -24,8 +24,8 @@ scrambled_bit w x k = (digit x (15 - k) + flip w x k) % 2
 abbrev pub scrambled : (w x : ℕ) → ℕ
 scrambled w x = word 6 (scrambled_bit w x) * 2 ^ 10 + x % 2 ^ 10
 
-abbrev pub scrambled_place : (v w : ℕ) → Place → Place
-scrambled_place v w p = (scrambled v p.0, scrambled w p.1)
+abbrev pub scrambled_place : (x_word y_word : ℕ) → Place → Place
+scrambled_place x_word y_word p = (scrambled x_word p.0, scrambled y_word p.1)
 
 abbrev pub swapped : Place → Place
 swapped p = (p.1, p.0)

@@ -3,7 +3,7 @@ use Rattle.std.specs.Prelude.{ℕ, zero, suc, ◌+◌, ◌*◌, ◌/◌, List, m
 use Rattle.std.specs.List.{range_with_len}
 use Rattle.nets.specs.Places.{Place}
 
--- the number of the k bytes from index i on, lowest byte first
+-- the number of the k bytes from index i on, lowest byte first; a byte past the end counts as 0
 abbrev pub le : (k : ℕ) (bytes : List ℕ) (i : ℕ) → ℕ
 le zero bytes i = 0
 le (suc k) bytes i = slice_index bytes i + 256 * le k bytes (i + 1)

@@ -9,7 +9,7 @@ Place = ℕ × ℕ
 abbrev pub OnPanel : Place → Type 0
 OnPanel p = (p.0 < 2 ^ 16) × (p.1 < 2 ^ 16)
 
--- the number that the top d of a coordinate's 16 bits make, and all of them from 16 on
+-- the number that the top d of a coordinate's 16 bits make; for a d over 16, x itself
 abbrev pub top : (d x : ℕ) → ℕ
 top d x = x / 2 ^ (16 - d)
 

@@ -1,5 +1,5 @@
--- The XOR of columns.
-use Rattle.std.proofs.Common.{◌≡◌, ℕ, zero, suc, ◌+◌, ◌*◌, ◌/◌, ◌%◌, ◌<◌, ◌≤◌, sym, refl, ap, ◌∙◌, ⊎_elim, add-one, arith}
+-- Bit k of y for all k at once: y is the XOR of one column for each set digit.
+use Rattle.std.proofs.Common.{◌≡◌, ℕ, zero, suc, ◌+◌, ◌*◌, ◌/◌, ◌%◌, ◌<◌, ◌≤◌, cond, eqb, sym, refl, ap, ◌∙◌, ⊎_elim, add-one, arith}
 use Rattle.std.specs.Prelude.{bit_xor}
 use Rattle.std.specs.Int.Bits.{xor_zero_r}
 use Rattle.std.proofs.lemmas.Bool.{cases_eq}
@@ -7,8 +7,17 @@ use Rattle.std.proofs.lemmas.Bool.Decides.{nat_tests}
 use Rattle.nets.specs.Digits.{digit, word}
 use Rattle.nets.proofs.Counts.{total_same, total_none}
 use Rattle.nets.proofs.Words.{word_same, word_front, word_pad, later, word_later, word_xor}
-use Rattle.sequences.specs.Sequences.{binomial, sobol_bit, sobol, column, xor_columns}
+use Rattle.sequences.specs.Sequences.{binomial, sobol_bit, sobol}
 use Rattle.sequences.proofs.Pascal.{binomial_over}
+
+-- the column of digit r: bit k from the top is C(r, k) modulo 2
+unfoldable pub column : (r : ℕ) → ℕ
+column r = word 16 (λ k. binomial r k % 2)
+
+-- the XOR of the columns of the set digits among the n lowest digits of i
+abbrev pub xor_columns : (n i : ℕ) → ℕ
+xor_columns zero i = 0
+xor_columns (suc n) i = bit_xor (xor_columns n i) (cond (eqb (digit i n) 1) (column n) 0)
 
 later_below : (b : ℕ → ℕ) → ((k : ℕ) → b k < 2) → (k : ℕ) → later b k < 2
 later_below b h zero = omega arith

@@ -1,5 +1,5 @@
 -- The points of Hammersley (1960), and of Sobol (1967) in the first two coordinates and in natural order.
-use Rattle.std.specs.Prelude.{ℕ, zero, suc, ◌+◌, ◌-◌, ◌*◌, ◌%◌, ◌^◌, if◌then◌else◌, List, map, ◌==◌, bit_xor}
+use Rattle.std.specs.Prelude.{ℕ, zero, suc, ◌+◌, ◌-◌, ◌*◌, ◌%◌, ◌^◌, List, map}
 use Rattle.std.specs.List.{range_with_len}
 use Rattle.nets.specs.Digits.{digit, word}
 use Rattle.nets.specs.Places.{Place}
@@ -33,12 +33,3 @@ hammersley_net = points_of hammersley
 
 abbrev pub sobol_net : (m : ℕ) → List Place
 sobol_net = points_of sobol
-
--- the direction number of digit r: bit k from the top is C(r, k) modulo 2
-unfoldable pub column : (r : ℕ) → ℕ
-column r = word 16 (λ k. binomial r k % 2)
-
--- the XOR of the columns of the set digits among the first n digits of i
-abbrev pub xor_columns : (n i : ℕ) → ℕ
-xor_columns zero i = 0
-xor_columns (suc n) i = bit_xor (xor_columns n i) (if digit i n == 1 then column n else 0)

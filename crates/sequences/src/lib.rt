@@ -1,4 +1,4 @@
-// The plans of two sequences: Hammersley's, and the first two coordinates of Sobol's.
+// The plans of Hammersley's points, and of Sobol's sequence in its first two coordinates.
 #![tactic(auto)]
 
 pub mod hammersley;

@@ -1,7 +1,6 @@
-// A plan whose places are the points of a sequence.
-ghost use Rattle.std.specs.Prelude.{◌≡◌, ℕ, IfOk, ⊤};
+// A plan whose places are told by level and index.
+ghost use Rattle.std.specs.Prelude.{◌≡◌, ℕ};
 ghost use Rattle.nets.specs.Places.{Place as Spot, IsNet};
-ghost use Rattle.nets.specs.Plans.{Placed};
 ghost use Rattle.nets.specs.Refusals.{OfLevel};
 ghost use Rattle.sequences.specs.Sequences.{points_of};
 
@@ -9,24 +8,20 @@ use crate::index::Index;
 use nets::{Level, LevelFault, Net, Place, PlaceFault};
 use std::marker::PhantomData;
 
-// The points of a sequence at each level, in a fixed order.
+// The points of each level, in a fixed order.
 pub trait Points {
     ghost point: { ℕ → ℕ → Spot };
 
-    // What else is promised of each point, at a level and an index.
-    ghost also: { ℕ → ℕ → Spot → Type 0 } = { λ _ _ _. ⊤ };
-
     // The point at an index.
     fn point(index: Index) -> Place
-        ensures point { result ≡ point index.level.m index.i }
-        ensures also { also index.level.m index.i result };
+        ensures { result ≡ point index.level.m index.i };
 
     // All points of a level are a net. It does nothing when it is run.
     fn show_net(level: Level)
         ensures { IsNet level.m (points_of point level.m) };
 }
 
-// The plan of a level that has the points P as its places.
+// The plan of a level whose places are the points P.
 #[derive(Clone, Copy, Debug, PartialEq, Eq)]
 pub struct Sequence<P> {
     level: Level,
@@ -68,10 +63,7 @@ impl<P: Points> Net for Sequence<P> {
     }
 
     #[tactic(auto, using(crate::proofs::AreNets::place_at))]
-    fn place(&self, i: u32) -> Result<Place, PlaceFault>
-        ensures placed { Placed self.now.level.m (points_of P.point self.now.level.m) i result }
-        ensures also { IfOk result (λ p. P.also self.now.level.m i p) }
-    {
+    fn place(&self, i: u32) -> Result<Place, PlaceFault> {
         let index = Index::new(self.level, i)?;
         Ok(P::point(index))
     }

@@ -1,6 +1,6 @@
 // The first two coordinates of the sequence of Sobol (1967), in natural order.
 ghost use Rattle.std.specs.Prelude.{◌≡◌, ◌/◌, bit_xor};
-ghost use Rattle.sequences.specs.Sequences.{sobol, xor_columns};
+ghost use Rattle.sequences.specs.Sequences.{sobol};
 
 use crate::index::Index;
 use crate::sequence::{Points, Sequence};
@@ -23,8 +23,7 @@ fn next_column(column: u16) -> u16
 // The XOR of the columns of the set digits of an index.
 #[tactic(auto, using(crate::proofs::Columns::columns))]
 fn xor_of_columns(index: Index) -> u16
-    ensures columns { result ≡ xor_columns index.level.m index.i }
-    ensures y { result ≡ (sobol index.level.m index.i).1 }
+    ensures { result ≡ (sobol index.level.m index.i).1 }
 {
     // A loop: with a fold over both values, that y is the XOR did not prove.
     let mut column: u16 = 0x8000;
@@ -40,9 +39,6 @@ fn xor_of_columns(index: Index) -> u16
 
 impl Points for SobolPoints {
     ghost point = { sobol };
-
-    // y is the XOR of the columns of the set digits of the index.
-    ghost also = { λ m i p. p.1 ≡ xor_columns m i };
 
     fn show_net(_level: Level) {}
 

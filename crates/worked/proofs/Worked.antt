@@ -32,10 +32,10 @@ grid_no_net : IsNet 2 grid → ⊥
 grid_no_net net = omega (arith, net.one 0 0 1 (omega arith) (omega arith) (omega arith))
 
 grid_first : (d n : ℕ) → FirstEmpty 2 grid d n → (d ≡ 0) × (n ≡ 1)
-grid_first (suc d) n first = absurd (first.shallowest 0 1 (omega arith) (omega arith) grid_empty)
-grid_first zero zero first = omega (arith, first.empty, grid_full)
+grid_first (suc d) n first = absurd (omega (arith, first.shallowest 0 (omega arith) 1 (omega arith), grid_empty))
+grid_first zero zero first = omega (arith, first.smallest.1, grid_full)
 grid_first zero (suc zero) first = (refl, refl)
-grid_first zero (suc (suc n)) first = absurd (first.smallest 1 (omega arith) grid_empty)
+grid_first zero (suc (suc n)) first = absurd (omega (arith, first.smallest.2 1 (omega arith), grid_empty))
 
 refused_grid : (r : Result ℕ AuditFault) → Audited grid r → MatchResult r (λ _. ⊥) (λ e. audit_told e ≡ refused 13 (0 ∷ 1 ∷ []))
 refused_grid (Ok n) (m, x) = grid_no_net (subst (λ k. IsNet k grid) (same_level m 2 (sym x.net.long)) x.net)

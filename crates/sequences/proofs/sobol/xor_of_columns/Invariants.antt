@@ -1,5 +1,5 @@
 use Rattle.std.proofs.Common.{◌≡◌}
-use Rattle.sequences.specs.Sequences.{column, xor_columns}
+use Rattle.sequences.proofs.Columns.{column, xor_columns}
 use Rattle.sequences.proofs.sobol.xor_of_columns.Given as goal
 
 abbrev pub invariant-loop-r : goal.invariant-loop-r
