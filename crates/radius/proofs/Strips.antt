@@ -9,7 +9,7 @@ use Rattle.std.proofs.lemmas.Bool.Decides.{nat_tests}
 use Rattle.nets.specs.Places.{Place, IsNet}
 use Rattle.nets.proofs.Intervals.{pow_sum}
 use Rattle.coats.specs.Terms.{boxed}
-use Rattle.radius.specs.Claims.{Off, Shares, BoxShares}
+use Rattle.radius.specs.Claims.{Off, BoxShares}
 use Rattle.radius.proofs.Counts.{count_under, count_split, count_zero, below_next, and_left, and_right}
 
 -- a length v ends in part q of n parts of size h
@@ -143,6 +143,7 @@ module _ (m v : ℕ) (ps : List Place) (net : IsNet m ps) (v_low : 1 ≤ v) (v_h
       let p = ends k (t / 2) (omega arith) (omega arith) in
       elim (parity t) [ inl even ↦ subst (Ends (suc k)) even (lower k (t / 2) hk (omega arith) p) | inr odd ↦ subst (Ends (suc k)) odd (upper k (t / 2) hk (omega arith) p) ]
 
+  -- half of the depths would do
   box_off : (u : ℕ) → 1 ≤ u → u ≤ 65536 → BoxOff ((m + 3) / 2) u
   unfolding BoxOff
   box_off u u-low u-high =
@@ -158,10 +159,6 @@ module _ (m v : ℕ) (ps : List Place) (net : IsNet m ps) (v_low : 1 ≤ v) (v_h
       (count_under (boxed u v) (boxed (suc t * g) v) (λ p. grind (arith, nat_tests, at.high)) ps)
       (omega (arith, next m t, (one_strip m t (omega arith) at.within).1)) at whole v_high
 
--- half of the depths would do
-pub box_half : Shares (λ m. (m + 3) / 2)
-unfolding BoxOff
-box_half m u v ps net (u-low, u-high) (v_low, v_high) = box_off m v ps net v_low v_high u u-low u-high
-
 pub box_shares : BoxShares
-box_shares m u v ps net hu hv = omega (arith, box_half m u v ps net hu hv)
+unfolding BoxOff
+box_shares m u v ps net (u-low, u-high) (v_low, v_high) = omega (arith, box_off m v ps net v_low v_high u u-low u-high)

@@ -11,13 +11,9 @@ pub record Off (e c a : ℕ) : Type 0 where
   pub above : c * 2 ^ 32 ≤ a + e * 2 ^ 32
   pub below : a ≤ c * 2 ^ 32 + e * 2 ^ 32
 
--- a box of a net of level m holds its share of the places, off by e m at most
-abbrev pub Shares : (ℕ → ℕ) → Type 0
-Shares e = (m u v : ℕ) (ps : List Place) → IsNet m ps → Side u → Side v → Off (e m) (count_by (boxed u v) ps) (2 ^ m * (u * v))
-
--- one place for each depth
+-- a box of a net holds its share of the places, off by one for each depth at most
 abbrev pub BoxShares : Type 0
-BoxShares = Shares (λ m. m + 1)
+BoxShares = (m u v : ℕ) (ps : List Place) → IsNet m ps → Side u → Side v → Off (m + 1) (count_by (boxed u v) ps) (2 ^ m * (u * v))
 
 -- the sum over the first n places is within its radius of the truth
 abbrev pub SumsNear : Type 0

@@ -9,15 +9,16 @@ abbrev pub added : List Term → List Place → ℤ
 added ts ps = sum_of (coat ts) ps
 
 -- what the depths of a net of level m cost a sum over all of it
-abbrev pub depth_part : (m : ℕ) → List Term → ℕ
-depth_part m ts = (m + 1) * weight ts
+abbrev pub depth_cost : (m : ℕ) → List Term → ℕ
+depth_cost m ts = (m + 1) * weight ts
 
 -- and what the places cost that are not among the first n
-abbrev pub rest_part : (m n : ℕ) → List Term → ℕ
-rest_part m n ts = (2 ^ m - n) * weight ts
+abbrev pub rest_cost : (m n : ℕ) → List Term → ℕ
+rest_cost m n ts = (2 ^ m - n) * weight ts
 
+-- R: how far the sum over the first n places may be from the truth
 abbrev pub radius : (m n : ℕ) → List Term → ℕ
-radius m n ts = depth_part m ts + rest_part m n ts
+radius m n ts = depth_cost m ts + rest_cost m n ts
 
 -- the sum s over places of a net of level m is within r of the truth, 2^m times the mean coat
 abbrev pub Near : (m : ℕ) → List Term → (s : ℤ) (r : ℕ) → Type 0

@@ -7,14 +7,14 @@ use Rattle.survey.specs.Recipes.{Recipe}
 use Rattle.survey.specs.Life.{History, Lived}
 use Rattle.survey.specs.Calls.{plan_of}
 use Rattle.survey.specs.Lives.{Begins}
-use Rattle.survey.specs.Gauges.{told, asked, At, StepLives}
+use Rattle.survey.specs.Gauges.{told, asked, At, Asks, AskLives}
 use Rattle.survey.specs.Replays.{Runs, opened, answered, barred, may_tell, Replayed}
 use Rattle.survey.specs.declared.gauge.Answer.{Answer}
 use Rattle.survey.specs.declared.gauge.Call.{Call}
 use Rattle.survey.specs.declared.gauge.Gauge.{Gauge}
 use Rattle.survey.specs.declared.gauge.Gauge.TheVariants as at
 use Rattle.survey.specs.declared.states.Survey.{Survey}
-use Rattle.survey.specs.declared.gauge.Step.{Step}
+use Rattle.survey.specs.declared.gauge.After.{After}
 use Rattle.survey.proofs.Promises.{promise}
 
 module _ {P M : Type 0} (nets : Nets P) (maps : Maps M) where
@@ -33,15 +33,15 @@ module _ {P M : Type 0} (nets : Nets P) (maps : Maps M) where
     more : (a : Option Answer) (h : History) → Runs o (map (asked nets maps) cs ++ asked nets maps c ∷ []) (map may_tell rs ++ may_tell a ∷ []) h → Runs o (map (asked nets maps) (cs ++ c ∷ [])) (map may_tell (rs ++ a ∷ [])) h
     more a h r = rw (map_push (asked nets maps) cs c, map_push may_tell rs a) r
 
-    by_answer : (a : Option Answer) (to : Gauge P M) → StepLives nets maps g c (record { gauge = to; answer = a }) → Led o (cs ++ c ∷ []) (rs ++ a ∷ []) to
-    by_answer None to (e, none) =
+    by_answer : (a : Option Answer) (to : Gauge P M) → Asks nets maps g c (record { gauge = to; answer = a }) → AskLives nets maps g c (record { gauge = to; answer = a }) → Led o (cs ++ c ∷ []) (rs ++ a ∷ []) to
+    by_answer None to rule none =
         record {
           lives = led.lives;
           runs = more None led.lives (barred _ _ led.lives (asked nets maps c) led.runs (none o led.lives led.at));
           lived = led.lived;
-          at = rw e led.at;
+          at = rw rule.0 led.at;
         }
-    by_answer (Some b) to carries =
+    by_answer (Some b) to rule carries =
         let next = carries o led.lives led.lived led.at in
         record {
           lives = (asked nets maps c, told b) ∷ led.lives;
@@ -50,9 +50,9 @@ module _ {P M : Type 0} (nets : Nets P) (maps : Maps M) where
           at = next.1;
         }
 
-  pub led_more : (o : Recipe) (cs : List (Call P M)) (rs rs' : List (Option Answer)) (g : Gauge P M) (c : Call P M) (r : Step P M) →
-      Led o cs rs g → StepLives nets maps g c r → rs' ≡ rs ++ r.answer ∷ [] → Led o (cs ++ c ∷ []) rs' r.gauge
-  led_more o cs rs rs' g c r led lives e = rw e (by_answer o cs rs g c led r.answer r.gauge lives)
+  pub led_more : (o : Recipe) (cs : List (Call P M)) (rs rs' : List (Option Answer)) (g : Gauge P M) (c : Call P M) (r : After P M) →
+      Led o cs rs g → Asks nets maps g c r → AskLives nets maps g c r → rs' ≡ rs ++ r.answer ∷ [] → Led o (cs ++ c ∷ []) rs' r.gauge
+  led_more o cs rs rs' g c r led rule lives e = rw e (by_answer o cs rs g c led r.answer r.gauge rule lives)
 
   pub led_replayed : (o : Recipe) (cs came rest : List (Call P M)) (rs : List (Option Answer)) (g : Gauge P M) →
       Led o came rs g → cs ≡ came ++ rest → length rest ≡ 0 → Replayed o (map (asked nets maps) cs) (map may_tell rs)

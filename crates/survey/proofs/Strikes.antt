@@ -30,8 +30,8 @@ same_at o _ (at_full g p t hp ht s) e = absurd cc
 
 module _ (o : Recipe) where
   -- after a take, a report or a limit
-  take_more : (k : ℕ) (a : Answer) (h g : History) → a ≡ answer o h (take k) → Same o h g → (g' : History) × Same o ((take k, a) ∷ h) g'
-  take_more k a h g e s =
+  take_same : (k : ℕ) (a : Answer) (h g : History) → a ≡ answer o h (take k) → Same o h g → (g' : History) × Same o ((take k, a) ∷ h) g'
+  take_same k a h g e s =
       elim (cases_Bool (accepts a)) [
         | inl accepted ↦ (
           (take k, a) ∷ g,
@@ -40,8 +40,8 @@ module _ (o : Recipe) where
         | inr refused ↦ (g, record { struck = goes (take k) a refl refused s.struck; lived = s.lived; helds = s.helds; limits = s.limits; takens = rw refused s.takens; here = s.here; there = s.there })
       ]
 
-  limit_more : (l : ℕ) (a : Answer) (h g : History) → a ≡ answer o h (set_limit l) → Same o h g → (g' : History) × Same o ((set_limit l, a) ∷ h) g'
-  limit_more l a h g e s =
+  limit_same : (l : ℕ) (a : Answer) (h g : History) → a ≡ answer o h (set_limit l) → Same o h g → (g' : History) × Same o ((set_limit l, a) ∷ h) g'
+  limit_same l a h g e s =
       elim (cases_Bool (accepts a)) [
         | inl accepted ↦ (
           (set_limit l, a) ∷ g,
@@ -50,16 +50,16 @@ module _ (o : Recipe) where
         | inr refused ↦ (g, record { struck = goes (set_limit l) a refl refused s.struck; lived = s.lived; helds = s.helds; limits = rw refused s.limits; takens = s.takens; here = s.here; there = s.there })
       ]
 
-  report_more : (a : Answer) (h g : History) → a ≡ answer o h report → Same o h g → (g' : History) × Same o ((report, a) ∷ h) g'
-  report_more a h g e s = (
+  report_same : (a : Answer) (h g : History) → a ≡ answer o h report → Same o h g → (g' : History) × Same o ((report, a) ∷ h) g'
+  report_same a h g e s = (
     (report, a) ∷ g,
     record { struck = stays report a refl (ap accepts e) s.struck; lived = (s.lived, s.there, cc); helds = s.helds; limits = s.limits; takens = s.takens; here = s.here; there = s.there },
   )
 
   -- after a commit of a change
-  commit_more : (a : Answer) (h g : History) (p : Plan) (t : List Term) → IsPlan p → IsMap t → a ≡ on_commit (record { plan = p; map = t }) (limit h) → Same o h g →
+  commit_same : (a : Answer) (h g : History) (p : Plan) (t : List Term) → IsPlan p → IsMap t → a ≡ on_commit (record { plan = p; map = t }) (limit h) → Same o h g →
       (g' : History) × Same o ((commit, a) ∷ (map_page t, paged) ∷ (begin p, begun) ∷ h) g'
-  commit_more a h g p t hp ht e s =
+  commit_same a h g p t hp ht e s =
       elim (cases_Bool (accepts a)) [
         | inl accepted ↦ (
           (commit, a) ∷ (map_page t, paged) ∷ (begin p, begun) ∷ g,
@@ -76,15 +76,15 @@ module _ (o : Recipe) where
         | inr refused ↦ (g, record { struck = lost p t begun paged a refused s.struck; lived = s.lived; helds = rw refused s.helds; limits = s.limits; takens = rw refused s.takens; here = refl; there = s.there })
       ]
 
-  page_more : (a : Answer) (t : List Term) (h : History) (p : Plan) → stage h ≡ half p → IsMap t → a ≡ paged → View o h → View o ((map_page t, a) ∷ h)
-  page_more a t h p at ht e (at_survey g s) = absurd cc
-  page_more a t _ p at ht e (at_half {h} g q hq s) = rw e (at_full g q t hq ht s)
-  page_more a t _ p at ht e (at_full g q u hq hu s) = absurd cc
+  page_view : (a : Answer) (t : List Term) (h : History) (p : Plan) → stage h ≡ half p → IsMap t → a ≡ paged → View o h → View o ((map_page t, a) ∷ h)
+  page_view a t h p at ht e (at_survey g s) = absurd cc
+  page_view a t _ p at ht e (at_half {h} g q hq s) = rw e (at_full g q t hq ht s)
+  page_view a t _ p at ht e (at_full g q u hq hu s) = absurd cc
 
   commit_view : (a : Answer) (h : History) (p : Plan) (t : List Term) → stage h ≡ full p t → a ≡ answer o h commit → View o h → View o ((commit, a) ∷ h)
   commit_view a h p t at e (at_survey g s) = absurd cc
   commit_view a _ p t at e (at_half g q hq s) = absurd cc
-  commit_view a _ p t at e (at_full {h} g q u hq hu s) = let m = commit_more a h g q u hq hu e s in at_survey m.0 m.1
+  commit_view a _ p t at e (at_full {h} g q u hq hu s) = let m = commit_same a h g q u hq hu e s in at_survey m.0 m.1
 
   abandon_view : (a : Answer) (h : History) → (stage h ≡ survey → ⊥) → View o h → View o ((abandon, a) ∷ h)
   abandon_view a h barred (at_survey g s) = absurd (barred s.here)
@@ -96,13 +96,13 @@ module _ (o : Recipe) where
 
   view : (h : History) → Lived o h → View o h
   view [] l = at_survey [] (record { struck = nothing; lived = l; helds = refl; limits = refl; takens = refl; here = refl; there = refl })
-  view ((take k, a) ∷ h) (l, ok, e) = alone_view h _ (λ g. take_more k a h g e) ok (view h l)
-  view ((report, a) ∷ h) (l, ok, e) = alone_view h _ (λ g. report_more a h g e) ok (view h l)
-  view ((set_limit k, a) ∷ h) (l, ok, e) = alone_view h _ (λ g. limit_more k a h g e) ok (view h l)
+  view ((take k, a) ∷ h) (l, ok, e) = alone_view h _ (λ g. take_same k a h g e) ok (view h l)
+  view ((report, a) ∷ h) (l, ok, e) = alone_view h _ (λ g. report_same a h g e) ok (view h l)
+  view ((set_limit k, a) ∷ h) (l, ok, e) = alone_view h _ (λ g. limit_same k a h g e) ok (view h l)
   view ((begin p, a) ∷ h) (l, ok, e) =
       let x = same_at o h (view h l) ok.0 in
       rw e (at_half x.0 p ok.1 x.1)
-  view ((map_page t, a) ∷ h) (l, ok, e) = page_more a t h ok.0.0 ok.0.1 ok.1 e (view h l)
+  view ((map_page t, a) ∷ h) (l, ok, e) = page_view a t h ok.0.0 ok.0.1 ok.1 e (view h l)
   view ((commit, a) ∷ h) (l, ok, e) = commit_view a h ok.0 ok.1 ok.2 e (view h l)
   view ((abandon, a) ∷ h) (l, ok, e) = abandon_view a h ok (view h l)
 

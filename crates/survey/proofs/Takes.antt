@@ -1,6 +1,6 @@
 -- A take carries on every life.
-use Rattle.std.proofs.Common.{◌≡◌, ℕ, ◌+◌, ◌<◌, List, ◌++◌, length, get_or, take, drop, ◌+ℤ◌, Ok, Err, Result, sym, ap, ◌∙◌, arith}
-use Rattle.std.proofs.lemmas.List.{length-drop, get_or-drop, take-append-drop, take-take, drop-take}
+use Rattle.std.proofs.Common.{◌≡◌, ℕ, ◌+◌, ◌<◌, List, length, get_or, take, drop, ◌+ℤ◌, Ok, Err, Result, ap, ◌∙◌, take-add, arith}
+use Rattle.std.proofs.lemmas.List.{length-drop, get_or-drop}
 use Rattle.nets.specs.Places.{Place}
 use Rattle.nets.specs.declared.net.Net.{Ghosts as Nets}
 use Rattle.coats.specs.declared.coat_map.CoatMap.{Ghosts as Maps}
@@ -18,13 +18,10 @@ use Rattle.survey.specs.declared.faults.TakeFault.{TakeFault}
 use Rattle.survey.specs.declared.faults.TakeFault.TheVariants as of_take
 use Rattle.survey.specs.declared.states.Survey.{Survey}
 
-take_more : (n k : ℕ) (ps : List Place) → take (n + k) ps ≡ take n ps ++ take k (drop n ps)
-take_more n k ps = sym (take-append-drop n (take (n + k) ps)) ∙ ap (λ (l : List Place). l ++ drop n (take (n + k) ps)) (take-take n (n + k) ps (omega arith)) ∙ ap (λ (l : List Place). take n ps ++ l) (drop-take n k ps)
-
 -- the sum over n places, and then over k more, of one recipe that goes by two names
 sum_more : (q q' : Recipe) (n n' k : ℕ) → q ≡ q' → n ≡ n' → sum q' (n' + k) ≡ sum q' n' +ℤ added q.map (take k (drop n q.plan.places))
 sum_more q q' n n' k same_recipe same_count =
-    let whole = take_more n' k q'.plan.places in
+    let whole = take-add n' k q'.plan.places in
     let parts = sum_of_append (coat q'.map) (take n' q'.plan.places) (take k (drop n' q'.plan.places)) in
     cc
 

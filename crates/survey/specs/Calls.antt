@@ -13,7 +13,7 @@ use Rattle.survey.specs.declared.states.Report.{Report}
 use Rattle.survey.specs.declared.states.FullChange.{FullChange}
 use Rattle.survey.specs.declared.states.Committed.{Committed}
 
--- what a plan means, of a type whose plans are nets
+-- what a value means whose type meets Net
 abbrev pub plan_of : {P : Type 0} → Nets P → P → Plan
 plan_of nets p = record { level = nets.level p; places = nets.places p }
 
@@ -43,10 +43,12 @@ module _ {P M : Type 0} (nets : Nets P) (maps : Maps M) where
     pub answers : take_told r ≡ on_take (recipe old) old.count k
     pub after : MatchResult r (λ _. Is old.plan old.map (old.count + k) (old.sum +ℤ next_coats k old) old.limit new) (λ _. new ≡ old)
 
+  -- accepted, a limit is set; refused, it leaves the survey as it was
   pub record Limits {X : Type 0} (l : ℕ) (old new : Survey P M) (r : Result X LimitFault) : Type 0 where
     pub answers : limit_told r ≡ on_limit (recipe old) l
     pub after : MatchResult r (λ _. Is old.plan old.map old.count old.sum l new) (λ _. new ≡ old)
 
+  -- a report tells m, n, S and R
   abbrev pub Reports : Survey P M → Report → Type 0
   Reports s r = report_told r ≡ reported (nets.level s.plan) s.count s.sum (radius (recipe s) s.count)
 

@@ -14,7 +14,7 @@ use Rattle.survey.specs.declared.gauge.Call.{Call}
 use Rattle.survey.specs.declared.gauge.Call.TheVariants as call
 use Rattle.survey.specs.declared.gauge.Answer.{Answer}
 use Rattle.survey.specs.declared.gauge.Answer.TheVariants as answer
-use Rattle.survey.specs.declared.gauge.Step.{Step}
+use Rattle.survey.specs.declared.gauge.After.{After}
 
 -- what an answer tells
 abbrev pub told : Answer → life.Answer
@@ -62,8 +62,8 @@ module _ {P M : Type 0} (nets : Nets P) (maps : Maps M) where
   Does _ _ _ _ = ⊥
 
   -- any other does nothing, and has no answer
-  abbrev pub Steps : Gauge P M → Call P M → Step P M → Type 0
-  Steps g c r = MatchOption r.answer ((r.gauge ≡ g) × (allows g c ≡ false)) (λ a. Does g c r.gauge a)
+  abbrev pub Asks : Gauge P M → Call P M → After P M → Type 0
+  Asks g c r = MatchOption r.answer ((r.gauge ≡ g) × (allows g c ≡ false)) (λ a. Does g c r.gauge a)
 
   abbrev pub At : Gauge P M → Position
   At (at.Survey s) = AtSurvey nets maps s
@@ -71,5 +71,5 @@ module _ {P M : Type 0} (nets : Nets P) (maps : Maps M) where
   At (at.Full c) = AtFull nets maps c
 
   -- an allowed call carries on every life; any other is allowed in none
-  abbrev pub StepLives : Gauge P M → Call P M → Step P M → Type 0
-  StepLives g c r = MatchOption r.answer ((r.gauge ≡ g) × ((o : Recipe) (h : History) → At g o h → Allowed (stage h) (asked c) → ⊥)) (λ a. Carries (asked c) (told a) (At g) (At r.gauge))
+  abbrev pub AskLives : Gauge P M → Call P M → After P M → Type 0
+  AskLives g c r = MatchOption r.answer ((o : Recipe) (h : History) → At g o h → Allowed (stage h) (asked c) → ⊥) (λ a. Carries (asked c) (told a) (At g) (At r.gauge))

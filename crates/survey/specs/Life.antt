@@ -2,7 +2,8 @@
 use Rattle.std.specs.Prelude.{◌≡◌, ℕ, zero, suc, ◌+◌, Bool, true, false, if◌then◌else◌, List, [], ◌∷◌, ℤ, ◌==◌, nat_lt}
 use Rattle.coats.specs.declared.term.Term.{Term}
 use Rattle.coats.specs.Terms.{IsMap}
-use Rattle.survey.specs.Recipes.{Plan, Recipe, IsPlan, IsRecipe, left, sum, radius, depth_cost}
+use Rattle.radius.specs.Radius.{depth_cost}
+use Rattle.survey.specs.Recipes.{Plan, Recipe, IsPlan, IsRecipe, left, sum, radius}
 
 pub data Call : Type 0 where
   take : (k : ℕ) → Call
@@ -107,10 +108,10 @@ abbrev pub on_report : Recipe → (n : ℕ) → Answer
 on_report q n = reported q.plan.level n (sum q n) (radius q n)
 
 abbrev pub on_limit : Recipe → (l : ℕ) → Answer
-on_limit q l = if nat_lt l (depth_cost q) then numbered 23 (depth_cost q ∷ []) else limited
+on_limit q l = if nat_lt l (depth_cost q.plan.level q.map) then numbered 23 (depth_cost q.plan.level q.map ∷ []) else limited
 
 abbrev pub on_commit : Recipe → (l : ℕ) → Answer
-on_commit q l = if nat_lt l (depth_cost q) then numbered 24 (depth_cost q ∷ []) else numbered 0 []
+on_commit q l = if nat_lt l (depth_cost q.plan.level q.map) then numbered 24 (depth_cost q.plan.level q.map ∷ []) else numbered 0 []
 
 -- what a call answers after a history
 abbrev pub answer : Recipe → History → Call → Answer

@@ -3,7 +3,7 @@ use Rattle.std.specs.Prelude.{ℕ, ◌-◌, ◌^◌, List, take, ℤ}
 use Rattle.nets.specs.Places.{Place, IsNet}
 use Rattle.coats.specs.declared.term.Term.{Term}
 use Rattle.coats.specs.Terms.{IsMap}
-use Rattle.radius.specs.Radius.{added, depth_part, radius as radius_after}
+use Rattle.radius.specs.Radius.{added, radius as radius_after}
 
 -- a level m and N = 2^m places in a fixed order
 pub record Plan : Type 0 where
@@ -33,7 +33,3 @@ sum q n = added q.map (take n q.plan.places)
 -- R after n places
 abbrev pub radius : Recipe → (n : ℕ) → ℕ
 radius q n = radius_after q.plan.level n q.map
-
--- (m + 1) * W, which a limit bounds
-abbrev pub depth_cost : Recipe → ℕ
-depth_cost q = depth_part q.plan.level q.map

@@ -1,5 +1,5 @@
 -- What a list of calls, made one after another from opening on, answers.
-use Rattle.std.specs.Prelude.{◌≡◌, List, [], ◌∷◌, ◌++◌, map, IfOk, Some, None, vec_items, Option, Result, Vec}
+use Rattle.std.specs.Prelude.{◌≡◌, ◌<◌, List, [], ◌∷◌, ◌++◌, length, map, Some, None, vec_items, Option, Result, MatchResult, Vec}
 use Rattle.std.specs.declared.alloc.AllocError.{AllocError}
 use Rattle.std.specs.declared.alloc.Global.{Global}
 use Rattle.nets.specs.declared.net.Net.{Ghosts as Nets}
@@ -32,5 +32,7 @@ pub record Replayed (o : Recipe) (cs : List life.Call) (rs : List (Option life.A
   pub promise : Promise o lives
 
 module _ {P M : Type 0} (nets : Nets P) (maps : Maps M) where
+  -- with memory for the answers, they are those of a life that keeps the promise; an empty list of calls
+  -- needs no memory
   abbrev pub Replays : P → M → List (Call P M) → Result (Vec (Option Answer) Global) AllocError → Type 0
-  Replays p m cs r = IfOk r (λ v. Replayed (record { plan = plan_of nets p; map = maps.terms m }) (map (asked nets maps) cs) (map may_tell (vec_items v)))
+  Replays p m cs r = MatchResult r (λ v. Replayed (record { plan = plan_of nets p; map = maps.terms m }) (map (asked nets maps) cs) (map may_tell (vec_items v))) (λ _. 0 < length cs)

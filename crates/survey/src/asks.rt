@@ -1,48 +1,48 @@
-// The step of a gauge.
+// A call of a gauge.
 ghost use Rattle.std.specs.Prelude.{◌≡◌, Some};
-ghost use Rattle.survey.specs.Gauges.{Steps, StepLives};
+ghost use Rattle.survey.specs.Gauges.{Asks, AskLives};
 
-use crate::gauge::{Answer, Call, Gauge, Step};
+use crate::gauge::{After, Answer, Call, Gauge};
 use crate::states::Committed;
 use coats::CoatMap;
 use nets::Net;
 
 impl<P: Net + Drop, M: CoatMap + Drop> Gauge<P, M> {
     // Makes a call, if the state allows it. Any other changes nothing, and has no answer.
-    pub fn ask(self, call: Call<P, M>) -> Step<P, M>
-        ensures rule { Steps P.Net M.CoatMap self call result }
-        ensures life { StepLives P.Net M.CoatMap self call result }
+    pub fn ask(self, call: Call<P, M>) -> After<P, M>
+        ensures rule { Asks P.Net M.CoatMap self call result }
+        ensures life { AskLives P.Net M.CoatMap self call result }
     {
         match (self, call) {
             (Gauge::Survey(mut survey), Call::Take(k)) => {
                 let answer = survey.take(k);
-                Step::answered(Gauge::Survey(survey), Answer::Taken(answer))
+                After::answered(Gauge::Survey(survey), Answer::Taken(answer))
             }
             (Gauge::Survey(survey), Call::Report) => {
                 let report = survey.report();
-                Step::answered(Gauge::Survey(survey), Answer::Reported(report))
+                After::answered(Gauge::Survey(survey), Answer::Reported(report))
             }
             (Gauge::Survey(mut survey), Call::Limit(limit)) => {
                 let answer = survey.set_limit(limit);
-                Step::answered(Gauge::Survey(survey), Answer::Limited(answer))
+                After::answered(Gauge::Survey(survey), Answer::Limited(answer))
             }
             (Gauge::Survey(survey), Call::Begin(plan)) => {
-                Step::answered(Gauge::Half(survey.begin(plan)), Answer::Begun)
+                After::answered(Gauge::Half(survey.begin(plan)), Answer::Begun)
             }
             (Gauge::Half(half), Call::MapPage(map)) => {
-                Step::answered(Gauge::Full(half.map_page(map)), Answer::Paged)
+                After::answered(Gauge::Full(half.map_page(map)), Answer::Paged)
             }
             (Gauge::Half(half), Call::Abandon) => {
-                Step::answered(Gauge::Survey(half.abandon()), Answer::Abandoned)
+                After::answered(Gauge::Survey(half.abandon()), Answer::Abandoned)
             }
             (Gauge::Full(full), Call::Commit) => {
                 let Committed { survey, outcome } = full.commit();
-                Step::answered(Gauge::Survey(survey), Answer::Committed(outcome))
+                After::answered(Gauge::Survey(survey), Answer::Committed(outcome))
             }
             (Gauge::Full(full), Call::Abandon) => {
-                Step::answered(Gauge::Survey(full.abandon()), Answer::Abandoned)
+                After::answered(Gauge::Survey(full.abandon()), Answer::Abandoned)
             }
-            (gauge, _) => Step {
+            (gauge, _) => After {
                 gauge,
                 answer: None,
             },
@@ -50,11 +50,11 @@ impl<P: Net + Drop, M: CoatMap + Drop> Gauge<P, M> {
     }
 }
 
-impl<P, M> Step<P, M> {
+impl<P, M> After<P, M> {
     fn answered(gauge: Gauge<P, M>, answer: Answer) -> Self
         ensures { result ≡ record { gauge = gauge; answer = Some answer } }
     {
-        Step {
+        After {
             gauge,
             answer: Some(answer),
         }

@@ -1,7 +1,7 @@
 // The calls of a survey.
 ghost use Rattle.std.specs.Prelude.{◌≡◌, ◌+◌, ◌*◌, ◌^◌, ◌<◌, ◌≤◌, slice_index_or, unsigned_abs};
 ghost use Rattle.coats.specs.Terms.{coat as coated};
-ghost use Rattle.radius.specs.Radius.{depth_part};
+ghost use Rattle.radius.specs.Radius.{depth_cost};
 ghost use Rattle.survey.specs.Calls.{plan_of, recipe, Opened, Takes, Limits, Reports, next_coats};
 ghost use Rattle.survey.specs.Lives.{Begins, TakeLives, ReportLives, LimitLives, NearTruth};
 ghost use Rattle.survey.specs.Recipes.{left as unread, radius as radius_of};
@@ -16,19 +16,19 @@ const FIRST_LIMIT: u64 = 212992;
 
 // What the depths of a plan cost a sum of a map.
 pub(crate) fn depth_cost<P: Net, M: CoatMap>(plan: &P, map: &M) -> u64
-    ensures value { result ≡ depth_part (P.level plan.now) (M.terms map.now) }
+    ensures value { result ≡ depth_cost (P.level plan.now) (M.terms map.now) }
     ensures bound { result ≤ 67108864 }
 {
     cost(plan.level() + 1, map.weight())
 }
 
-// What so many places cost where each costs a map's weight.
-fn cost(places: u32, weight: u32) -> u64
-    requires { (places ≤ 4096) × (weight ≤ 16384) }
-    ensures value { result ≡ places * weight }
+// So many times a map's weight.
+fn cost(times: u32, weight: u32) -> u64
+    requires { (times ≤ 4096) × (weight ≤ 16384) }
+    ensures value { result ≡ times * weight }
     ensures bound { result ≤ 67108864 }
 {
-    u64::from(places) * u64::from(weight)
+    u64::from(times) * u64::from(weight)
 }
 
 impl<P: Net, M: CoatMap> Survey<P, M> {

@@ -34,7 +34,7 @@ pub enum Answer {
 
 // The gauge after a call, and the answer, if the call was allowed.
 #[derive(Debug, Drop)]
-pub struct Step<P, M> {
+pub struct After<P, M> {
     pub gauge: Gauge<P, M>,
     pub answer: Option<Answer>,
 }

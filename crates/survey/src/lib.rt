@@ -11,6 +11,6 @@ pub mod replays;
 pub mod states;
 
 pub use faults::{CommitFault, LimitFault, TakeFault};
-pub use gauge::{Answer, Call, Gauge, Step};
+pub use gauge::{After, Answer, Call, Gauge};
 pub use replays::replay;
 pub use states::{Committed, FullChange, HalfChange, Report, Survey};

@@ -21,9 +21,9 @@ pub fn replay<P: Net + Drop, M: CoatMap + Drop>(
     let mut answers = Vec::with_capacity(heap, calls.len())?;
     let mut gauge = Gauge::Survey(Survey::open(plan, map));
     for call in calls {
-        let step = gauge.ask(call);
-        gauge = step.gauge;
-        answers.push_reserved(step.answer);
+        let after = gauge.ask(call);
+        gauge = after.gauge;
+        answers.push_reserved(after.answer);
     }
     Ok(answers)
 }

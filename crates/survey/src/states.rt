@@ -38,7 +38,7 @@ pub struct Committed<P, M> {
     pub outcome: Result<(), CommitFault>,
 }
 
-// The level, the number of places taken, their sum, and how far that may be off.
+// The level, how many places are taken, the sum of their coats, and how far that may be off.
 #[derive(Clone, Copy, Debug, PartialEq, Eq)]
 pub struct Report {
     pub level: u32,

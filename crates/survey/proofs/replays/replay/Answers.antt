@@ -7,7 +7,7 @@ pub loop-call-preserved : goal.loop-call-preserved
 loop-call-preserved g c = record {
   calls = grind (arith, common_steps);
   room = search rules;
-  led = led_more g.P.Net g.M.CoatMap _ _ _ _ _ _ _ c.loop-call.invariant.led c.ask-step.ensures.life c.push_reserved.ensures.items;
+  led = led_more g.P.Net g.M.CoatMap _ _ _ _ _ _ _ c.loop-call.invariant.led c.ask-after.ensures.rule c.ask-after.ensures.life c.push_reserved.ensures.items;
 }
 
 pub returns : goal.returns
