@@ -1,12 +1,12 @@
 -- What boxes weigh, the coat that they give, and the sides of their terms.
-use Rattle.std.proofs.Common.{◌≡◌, ℕ, ◌+◌, ◌<◌, ◌≤◌, cond, List, [], ◌∷◌, length, get_or, take, pos, ◌+ℤ◌, nat_abs, sum_by, filter, sym, refl, ◌∙◌, subst, arith}
+use Rattle.std.proofs.Common.{◌≡◌, ℕ, ◌+◌, ◌<◌, ◌≤◌, cond, List, [], ◌∷◌, length, get_or, take, pos, ◌+ℤ◌, nat_abs, sum_by, filter, refl, ◌∙◌, arith}
 use Rattle.std.specs.List.{All}
 use Rattle.std.proofs.lemmas.List.Elements.{All-from_recursion, All-weaker, All-filter, filter_passes}
 use Rattle.std.proofs.lemmas.Int.{ints}
 use Rattle.std.proofs.lemmas.Bool.Decides.{nat_tests}
 use Rattle.nets.specs.Places.{Place}
 use Rattle.coats.specs.declared.term.Term.{Term}
-use Rattle.coats.specs.Terms.{sum_of, share, coat, weight, Sides, IsMap}
+use Rattle.coats.specs.Terms.{sum_of, share, coat, weight, Sides}
 use Rattle.coats.proofs.Sums.{sum_of_more, sum_of_same, sum_of_joined, sum_by_joined, all_joined}
 use Rattle.boxes.specs.declared.row.BoxRow.{BoxRow}
 use Rattle.boxes.specs.Rows.{corners, has_sides, box_terms, boxes_terms, BoxBounds, inside}
@@ -37,11 +37,8 @@ row_sides r b k d h =
     let low = filter_passes has_sides (corners r) k d h in
     grind (arith, nat_tests)
 
--- rows that a map may have, and that it keeps
-pub boxes_map : {rows kept : List BoxRow} → kept ≡ rows → All BoxBounds rows → weight (boxes_terms rows) ≤ 16384 → IsMap (boxes_terms kept)
-boxes_map {rows} same bounds light =
-    let sides = all_joined box_terms Sides rows (All-weaker BoxBounds (λ r. All Sides (box_terms r)) row_sides rows bounds) in
-    subst (λ (rows : List BoxRow). IsMap (boxes_terms rows)) (sym same) (record { sides = sides; light = light })
+pub boxes_sides : (rows : List BoxRow) → All BoxBounds rows → All Sides (boxes_terms rows)
+boxes_sides rows h = all_joined box_terms Sides rows (All-weaker BoxBounds (λ r. All Sides (box_terms r)) row_sides rows h)
 
 -- outside the box the corners cancel
 pub box_coat : (r : BoxRow) → BoxBounds r → (p : Place) → coat (box_terms r) p ≡ cond (inside r p) r.w (pos 0)

@@ -18,9 +18,11 @@ corners r = term r.w r.x1 r.y1 ∷ term (neg_ℤ r.w) r.x0 r.y1 ∷ term (neg_�
 abbrev pub has_sides : Term → Bool
 has_sides t = nat_lt 0 t.u && nat_lt 0 t.v
 
+-- the terms of a box: its corners but those with a side of 0, which add nothing
 abbrev pub box_terms : BoxRow → List Term
 box_terms r = filter has_sides (corners r)
 
+-- the terms of all boxes, box 0 first
 abbrev pub boxes_terms : List BoxRow → List Term
 boxes_terms rows = flat_map box_terms rows
 

@@ -6,34 +6,31 @@ ghost use Rattle.boxes.specs.Rows.{boxes_terms};
 
 use crate::map::Boxes;
 use crate::row::BoxRow;
-use coats::{CoatMap, MapFault, check_count, check_weight, first_out};
+use arrayvec::ArrayVec;
+use coats::{CoatMap, MapFault, check_weight, first_out};
 use nets::Place;
-use std::alloc::Global;
-
-// The most boxes that a map may have.
-const MOST: usize = 32;
 
 impl Boxes {
     // No boxes.
-    pub fn new(heap: Global) -> Self
+    pub fn new() -> Self
         ensures { result.rows.items ≡ [] }
     {
         Boxes {
-            rows: Vec::new(heap),
+            rows: ArrayVec::new(),
             weight: 0,
         }
     }
 
     // Replaces the boxes by these, if they are a map.
-    pub fn replace(&mut self, heap: Global, rows: &[BoxRow]) -> Result<(), MapFault>
+    #[tactic(auto, using(crate::proofs::Corners::boxes_sides))]
+    pub fn replace(&mut self, rows: &[BoxRow]) -> Result<(), MapFault>
         ensures { BoxesReplaced rows.now self.old self.new result }
     {
-        check_count(rows.len(), MOST)?;
-        if let Some(row) = first_out(rows) {
+        let rows = ArrayVec::try_from(rows).map_err(|_| MapFault::Count)?;
+        if let Some(row) = first_out(&rows) {
             return Err(MapFault::Row(row));
         }
-        let weight = check_weight(weigh(rows))?;
-        let rows = rows.to_vec(heap)?;
+        let weight = check_weight(weigh(&rows))?;
         *self = Boxes { rows, weight };
         Ok(())
     }
@@ -51,7 +48,7 @@ impl CoatMap for Boxes {
     fn coat(&self, place: Place) -> i32 {
         // A loop: a chain's signed sum leaves its bound open, and a function for all would require it.
         let mut sum = 0;
-        for row in &self.rows {
+        for row in self.rows.as_slice() {
             sum += row.coat(place);
         }
         sum

@@ -5,5 +5,5 @@ pub mod calls;
 pub mod map;
 pub mod row;
 
-pub use map::Boxes;
+pub use map::{Boxes, MOST_BOXES};
 pub use row::{BoxRow, show_box};

@@ -58,7 +58,7 @@ impl BoxRow {
         ensures value { result ≡ weighed (box_terms self) }
         ensures bound { result ≤ 131072 }
     {
-        // Each by name: neither a chain's sum nor its bound proved.
+        // Each by name: neither a chain's sum nor its bound was proved.
         let [a, b, c, d] = self.corners();
         size(a) + size(b) + size(c) + size(d)
     }

@@ -12,12 +12,14 @@ cell rows r s = if nat_lt r 8 && nat_lt s 8 then slice_index_or (slice_index_or 
 abbrev pub mixed : (ℕ → ℕ → ℤ) → ℕ → ℕ → ℤ
 mixed c r s = c r s -ℤ c (r + 1) s -ℤ c r (s + 1) +ℤ c (r + 1) (s + 1)
 
+-- the term at (r, s)
 abbrev pub cell_term : (ℕ → ℕ → ℤ) → ℕ → ℕ → Term
 cell_term c r s = term (mixed c r s) (8192 * (s + 1)) (8192 * (r + 1))
 
--- those of row r
+-- the terms of row r, s from 0 to 7
 abbrev pub row_terms : (ℕ → ℕ → ℤ) → ℕ → List Term
 row_terms c r = map (cell_term c r) (range_with_len 0 8)
 
+-- the terms of all rows, row 0 first
 unfoldable pub cells_terms : (ℕ → ℕ → ℤ) → List Term
 cells_terms c = flat_map (row_terms c) (range_with_len 0 8)

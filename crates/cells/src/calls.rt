@@ -92,7 +92,7 @@ impl Table {
         ensures value { result ≡ weighed (row_terms (held self.now) r) }
         ensures bound { result ≤ 1048576 }
     {
-        // A loop: with a chain over the range, neither the sum nor its bound proved.
+        // A loop: with a chain over the range, neither the sum nor its bound was proved.
         let mut sum = 0;
         for s in 0..8 {
             sum += self.size(r, s);

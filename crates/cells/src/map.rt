@@ -7,8 +7,6 @@ ghost use Rattle.cells.specs.Tables.{held};
 use crate::table::Table;
 
 // A value for each of 8 by 8 squares of the panel.
-//
-// One struct for all kinds of map would need a trait for their rows, and be longer.
 #[derive(Debug, Drop)]
 pub struct Cells {
     pub(crate) table: Table,

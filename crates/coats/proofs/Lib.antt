@@ -1,3 +1,2 @@
-pub mod Products
 pub mod Sums
 mod Firsts

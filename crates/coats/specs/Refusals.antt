@@ -1,7 +1,7 @@
 -- What the refusals of rows tell, and when each is told.
 use Rattle.std.specs.Prelude.{◌≡◌, ℕ, ◌<◌, ◌≤◌, ◌⊎◌, List, [], ◌∷◌, length, All}
 use Rattle.std.specs.List.{HoldsAt, AllWithin}
-use Rattle.nets.specs.Refusals.{Told, refused, no_memory}
+use Rattle.nets.specs.Refusals.{Told, refused}
 use Rattle.coats.specs.declared.term.Term.{Term}
 use Rattle.coats.specs.Terms.{weight}
 use Rattle.coats.specs.declared.faults.MapFault.{MapFault}
@@ -12,7 +12,6 @@ abbrev pub map_told : MapFault → Told
 map_told of_map.Count = refused 7 (0 ∷ [])
 map_told (of_map.Row i) = refused 8 (i ∷ [])
 map_told of_map.Weight = refused 9 (0 ∷ [])
-map_told of_map.Memory = no_memory
 
 -- the first row that is out of its bounds, with its number
 pub record FirstOut {R : Type 0} (Bounds : R → Type 0) (rows : List R) (i : ℕ) : Type 0 where
@@ -26,6 +25,7 @@ pub record Good {R : Type 0} (Few : Type 0) (Bounds : R → Type 0) (rows : List
   pub bounds : All Bounds rows
   pub light : weight ts ≤ 16384
 
+-- there are more rows than the kind allows
 pub record TooMany (Few : Type 0) (t : Told) : Type 0 where
   pub many : Few → ⊥
   pub tells : t ≡ refused 7 (0 ∷ [])
@@ -39,10 +39,9 @@ pub record TooHeavy (ts : List Term) (t : Told) : Type 0 where
   pub heavy : 16384 < weight ts
   pub tells : t ≡ refused 9 (0 ∷ [])
 
--- the first fault of rows, or want of memory for good ones
+-- the first fault of rows: too many, or one out of its bounds, or too heavy
 abbrev pub Refusal : {R : Type 0} (Few : Type 0) (Bounds : R → Type 0) (rows : List R) (ts : List Term) (t : Told) → Type 0
 Refusal Few Bounds rows ts t =
     TooMany Few t
     ⊎ (Few × OutOfBounds Bounds rows t)
     ⊎ (Few × All Bounds rows × TooHeavy ts t)
-    ⊎ (Good Few Bounds rows ts × (t ≡ no_memory))

@@ -31,6 +31,7 @@ weight ts = sum_by (λ t. unsigned_abs t.w) ts
 abbrev pub integral : List Term → ℤ
 integral ts = sum_of (λ t. t.w *ℤ pos (t.u * t.v)) ts
 
+-- a width or height that a box may have
 abbrev pub Side : ℕ → Type 0
 Side n = (1 ≤ n) × (n ≤ 65536)
 

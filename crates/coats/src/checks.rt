@@ -1,4 +1,5 @@
-// The checks of rows, in the order in which their faults are told.
+// The checks of rows, in the order in which their faults are told. Their count is checked before, by
+// the vector of a fixed capacity that they are put into.
 ghost use Rattle.std.specs.Prelude.{◌≡◌, ◌<◌, ◌≤◌, ◌↔◌, [], ◌∷◌, All, IsTrue, MatchOption, MatchResult};
 ghost use Rattle.nets.specs.Refusals.{refused};
 ghost use Rattle.coats.specs.Refusals.{FirstOut, map_told};
@@ -24,17 +25,6 @@ pub trait Bounded {
 
     fn in_bounds(&self) -> bool
         ensures { IsTrue result ↔ bounds self.now };
-}
-
-// 7 if there are more rows than the most.
-pub fn check_count(rows: usize, most: usize) -> Result<(), MapFault>
-    ensures { MatchResult result (λ _. rows ≤ most) (λ e. (most < rows) × (map_told e ≡ refused 7 (0 ∷ []))) }
-{
-    if rows <= most {
-        Ok(())
-    } else {
-        Err(MapFault::Count)
-    }
 }
 
 // The number of the first row out of its bounds.

@@ -6,6 +6,8 @@ ghost use Rattle.coats.specs.Terms.{IsMap, coat as coated, weight as weighed};
 use nets::Place;
 
 // A map: terms whose weight W, the sum of |w|, is at most 16,384.
+//
+// Each kind is a struct of its own: one for all would need a trait for their rows, and be longer.
 pub trait CoatMap {
     ghost terms: { Self → List Term };
 

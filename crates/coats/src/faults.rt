@@ -1,8 +1,4 @@
 // How rows are refused.
-ghost use Rattle.std.specs.Prelude.{◌≡◌};
-ghost use Rattle.coats.specs.declared.faults.MapFault.TheVariants as of_map;
-
-use std::alloc::AllocError;
 
 #[derive(Clone, Copy, Debug, PartialEq, Eq)]
 pub enum MapFault {
@@ -12,14 +8,4 @@ pub enum MapFault {
     Row(usize),
     // 9: the weight is over 16,384.
     Weight,
-    Memory,
-}
-
-// Written by hand, since a derived conversion has no contract.
-impl From<AllocError> for MapFault {
-    ghost from_gives = { λ _ r. r ≡ of_map.Memory };
-
-    fn from(_e: AllocError) -> MapFault {
-        MapFault::Memory
-    }
 }

@@ -7,7 +7,7 @@ pub mod faults;
 pub mod order;
 pub mod term;
 
-pub use checks::{Bounded, check_count, check_weight, first_out, is_bound};
+pub use checks::{Bounded, check_weight, first_out, is_bound};
 pub use coat_map::CoatMap;
 pub use faults::MapFault;
 pub use order::show_same;

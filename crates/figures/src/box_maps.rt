@@ -4,7 +4,6 @@ ghost use Rattle.std.specs.Prelude.{◌<◌, ◌≤◌};
 use boxes::{BoxRow, Boxes};
 use coats::{CoatMap, MapFault};
 use nets::Place;
-use std::alloc::Global;
 use std::process::Abort;
 use std::test::Fail;
 
@@ -18,17 +17,16 @@ const fn row(x0: u32, x1: u32, y0: u32, y1: u32, w: i16) -> BoxRow {
 // What becomes of a map of one box, which weighs 28 and has the coat 7 at one place only, when its rows
 // are to be replaced: the answer, and then the weight and the coat at a place. Steps have their own,
 // since each kind of map is made in its own way.
-fn outcome(heap: Global, rows: &[BoxRow], place: Place) -> Result<Outcome, MapFault> {
-    let mut map = Boxes::new(heap);
-    map.replace(heap, &[row(9, 10, 9, 10, 7)])?;
-    let answer = map.replace(heap, rows);
+fn outcome(rows: &[BoxRow], place: Place) -> Result<Outcome, MapFault> {
+    let mut map = Boxes::new();
+    map.replace(&[row(9, 10, 9, 10, 7)])?;
+    let answer = map.replace(rows);
     Ok((answer, map.weight(), map.coat(place)))
 }
 
 #[test]
 fn boxes(rt: HostRuntime) -> Result<(), Fail> {
-    let heap = rt.alloc();
-    let empty = Boxes::new(heap);
+    let empty = Boxes::new();
     assert_eq!(rt; (empty.weight(), empty.coat((0, 0))), (0, 0));
     let quarter = [row(0, 32768, 0, 32768, 3)];
     let strip = [row(16384, 49152, 0, 65536, 5)];
@@ -49,7 +47,7 @@ fn boxes(rt: HostRuntime) -> Result<(), Fail> {
         (&inner[..], (65535, 65535), 25, -9),
         (&[], (9, 9), 0, 0),
     ] {
-        assert_eq!(rt; outcome(heap, rows, place)?, (Ok(()), weight, coat));
+        assert_eq!(rt; outcome(rows, place)?, (Ok(()), weight, coat));
     }
     Ok(())
 }
@@ -57,9 +55,8 @@ fn boxes(rt: HostRuntime) -> Result<(), Fail> {
 // Bounds at their edges. A refused row leaves the map as it is.
 #[test]
 fn box_bounds(rt: HostRuntime) -> Result<(), Fail> {
-    let heap = rt.alloc();
     let good = row(65535, 65536, 65535, 65536, 8);
-    assert_eq!(rt; outcome(heap, &[good], (65535, 65535))?, (Ok(()), 32, 8));
+    assert_eq!(rt; outcome(&[good], (65535, 65535))?, (Ok(()), 32, 8));
     for bad in [
         row(5, 5, 0, 1, 1),
         row(6, 5, 0, 1, 1),
@@ -70,12 +67,9 @@ fn box_bounds(rt: HostRuntime) -> Result<(), Fail> {
         row(0, 1, 0, 4294967295, 1),
         row(65536, 65536, 0, 1, 1),
     ] {
+        assert_eq!(rt; outcome(&[bad], (9, 9))?, (Err(MapFault::Row(0)), 28, 7));
         assert_eq!(rt;
-            outcome(heap, &[bad], (9, 9))?,
-            (Err(MapFault::Row(0)), 28, 7)
-        );
-        assert_eq!(rt;
-            outcome(heap, &[good, good, bad, bad], (9, 9))?,
+            outcome(&[good, good, bad, bad], (9, 9))?,
             (Err(MapFault::Row(2)), 28, 7)
         );
     }
@@ -85,7 +79,6 @@ fn box_bounds(rt: HostRuntime) -> Result<(), Fail> {
 // The count is told before a row, and a row before the weight.
 #[test]
 fn refused_boxes(rt: HostRuntime) -> Result<(), Fail> {
-    let heap = rt.alloc();
     let light = [row(0, 10, 0, 10, 1); 33];
     let mut heavy = light;
     heavy[0] = row(0, 1, 0, 1, -32768);
@@ -100,7 +93,7 @@ fn refused_boxes(rt: HostRuntime) -> Result<(), Fail> {
         (&inner[..], (Err(MapFault::Weight), 28, 7)),
         (&light[0..32], (Ok(()), 32, 32)),
     ] {
-        assert_eq!(rt; outcome(heap, rows, (9, 9))?, expected);
+        assert_eq!(rt; outcome(rows, (9, 9))?, expected);
     }
     Ok(())
 }
@@ -108,7 +101,6 @@ fn refused_boxes(rt: HostRuntime) -> Result<(), Fail> {
 // The weight at its edge, by one corner and by four.
 #[test]
 fn heaviest_boxes(rt: HostRuntime) -> Result<(), Fail> {
-    let heap = rt.alloc();
     let whole = row(0, 65536, 0, 65536, -16384);
     let inner = row(9, 10, 9, 10, 4096);
     let more = row(0, 65536, 0, 65536, 1);
@@ -118,7 +110,7 @@ fn heaviest_boxes(rt: HostRuntime) -> Result<(), Fail> {
         ([inner, row(0, 1, 0, 1, 0)], (Ok(()), 16384, 4096)),
         ([more, inner], (Err(MapFault::Weight), 28, 7)),
     ] {
-        assert_eq!(rt; outcome(heap, &rows, (9, 9))?, expected);
+        assert_eq!(rt; outcome(&rows, (9, 9))?, expected);
     }
     Ok(())
 }
@@ -224,7 +216,7 @@ fn compare(rt: &impl Abort, map: &Boxes, rows: &[BoxRow]) {
 #[test]
 fn random_boxes(rt: HostRuntime) -> Result<(), Fail> {
     let mut dice = Dice { state: 2026 };
-    let mut map = Boxes::new(rt.alloc());
+    let mut map = Boxes::new();
     for _ in 0..16 {
         let rows = [
             dice.row(),
@@ -234,7 +226,7 @@ fn random_boxes(rt: HostRuntime) -> Result<(), Fail> {
             dice.row(),
             dice.row(),
         ];
-        map.replace(rt.alloc(), &rows)?;
+        map.replace(&rows)?;
         compare(&rt, &map, &rows);
     }
     Ok(())

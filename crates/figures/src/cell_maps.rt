@@ -100,7 +100,7 @@ fn check_map<M: CoatMap>(rt: &impl Abort, map: &M, weight: u32, coat: i32) {
 // A box and a cell that mean the same, each behind the enum.
 #[test]
 fn any_kind(rt: HostRuntime) -> Result<(), Fail> {
-    let mut boxes = Boxes::new(rt.alloc());
+    let mut boxes = Boxes::new();
     let row = BoxRow {
         x0: 16384,
         x1: 24576,
@@ -108,10 +108,10 @@ fn any_kind(rt: HostRuntime) -> Result<(), Fail> {
         y1: 49152,
         w: 100,
     };
-    boxes.replace(rt.alloc(), &[row])?;
+    boxes.replace(&[row])?;
     let mut cells = Cells::new();
     cells.replace(&one_cell(5, 2, 100))?;
-    let steps = Steps::new(rt.alloc());
+    let steps = Steps::new();
     check_map(&rt, &Map::Boxes(boxes), 400, 100);
     check_map(&rt, &Map::Cells(cells), 400, 100);
     check_map(&rt, &Map::Steps(steps), 0, 0);

@@ -35,7 +35,7 @@ const SQUARE: [u8; 71] = [
 #[test]
 fn refused_jobs(rt: HostRuntime) -> Result<(), Fail> {
     let heap = rt.alloc();
-    let mut recipe = Recipe::new(heap);
+    let mut recipe = Recipe::new();
     assert_eq!(rt; recipe.plan.kind(), PlanKind::Hammersley);
     assert_eq!(rt; recipe.plan.level(), 0);
     assert_eq!(rt; recipe.map.kind(), MapKind::Boxes);

@@ -16,7 +16,10 @@ fn single_layers(rt: HostRuntime) -> Result<(), Fail> {
     assert_eq!(rt; scrambled.place(0), Ok((0, 1024)));
     assert_eq!(rt; scrambled.place(31), Ok((64512, 63488)));
     // The word's lowest bit is no node.
-    assert_eq!(rt; Scramble::new(Hammersley::new(0)?, 1, 2).place(0), Ok((0, 32768)));
+    assert_eq!(rt;
+        Scramble::new(Hammersley::new(0)?, 1, 2).place(0),
+        Ok((0, 32768))
+    );
     assert_eq!(rt; Swap::new(Hammersley::new(2)?).place(1), Ok((32768, 16384)));
     assert_eq!(rt;
         MaybeSwap::new(Hammersley::new(2)?, true).place(1),

@@ -2,7 +2,6 @@
 use crate::box_maps::Outcome;
 use coats::{CoatMap, MapFault};
 use nets::Place;
-use std::alloc::Global;
 use std::test::Fail;
 use steps::{Step, Steps};
 
@@ -12,17 +11,16 @@ fn step(value: i16, bound: u32) -> Step {
 
 // What becomes of a map of one term, of weight 7 on the places with y = 0, when its steps are to be
 // replaced: the answer, and then the weight and the coat at a place.
-fn outcome(heap: Global, x: &[Step], y: &[Step], place: Place) -> Result<Outcome, MapFault> {
-    let mut map = Steps::new(heap);
-    map.replace(heap, &[step(7, 65536)], &[step(-1, 1)])?;
-    let answer = map.replace(heap, x, y);
+fn outcome(x: &[Step], y: &[Step], place: Place) -> Result<Outcome, MapFault> {
+    let mut map = Steps::new();
+    map.replace(&[step(7, 65536)], &[step(-1, 1)])?;
+    let answer = map.replace(x, y);
     Ok((answer, map.weight(), map.coat(place)))
 }
 
 #[test]
 fn pairings(rt: HostRuntime) -> Result<(), Fail> {
-    let heap = rt.alloc();
-    let empty = Steps::new(heap);
+    let empty = Steps::new();
     assert_eq!(rt; (empty.weight(), empty.coat((0, 0))), (0, 0));
     let x = [step(2, 10), step(-5, 65536)];
     let y = [step(3, 1), step(4, 20), step(-1, 65536)];
@@ -37,7 +35,7 @@ fn pairings(rt: HostRuntime) -> Result<(), Fail> {
         ((65535, 65535), 5),
     ] {
         // (2 + 5) * (3 + 4 + 1)
-        assert_eq!(rt; outcome(heap, &x, &y, place)?, (Ok(()), 56, coat));
+        assert_eq!(rt; outcome(&x, &y, place)?, (Ok(()), 56, coat));
     }
     Ok(())
 }
@@ -46,7 +44,6 @@ fn pairings(rt: HostRuntime) -> Result<(), Fail> {
 // they weigh nothing.
 #[test]
 fn one_side_empty(rt: HostRuntime) -> Result<(), Fail> {
-    let heap = rt.alloc();
     let low = [step(-32768, 65536); 16];
     let zero = [step(0, 7)];
     for (x, y) in [
@@ -55,7 +52,7 @@ fn one_side_empty(rt: HostRuntime) -> Result<(), Fail> {
         (&zero[..], &low[..]),
         (&[][..], &[][..]),
     ] {
-        assert_eq!(rt; outcome(heap, x, y, (0, 0))?, (Ok(()), 0, 0));
+        assert_eq!(rt; outcome(x, y, (0, 0))?, (Ok(()), 0, 0));
     }
     Ok(())
 }
@@ -63,7 +60,6 @@ fn one_side_empty(rt: HostRuntime) -> Result<(), Fail> {
 // Bounds at their edges, with the steps for y numbered after those for x.
 #[test]
 fn step_bounds(rt: HostRuntime) -> Result<(), Fail> {
-    let heap = rt.alloc();
     let good = [step(7, 65536), step(1, 1), step(-2, 65535)];
     for end in [0, 65537, 4294967295] {
         let bad = [step(1, end); 2];
@@ -75,10 +71,7 @@ fn step_bounds(rt: HostRuntime) -> Result<(), Fail> {
             (&good[0..2], &last[..], 4),
             (&[][..], &bad[..], 0),
         ] {
-            assert_eq!(rt;
-                outcome(heap, x, y, (9, 0))?,
-                (Err(MapFault::Row(row)), 7, -7)
-            );
+            assert_eq!(rt; outcome(x, y, (9, 0))?, (Err(MapFault::Row(row)), 7, -7));
         }
     }
     Ok(())
@@ -87,7 +80,6 @@ fn step_bounds(rt: HostRuntime) -> Result<(), Fail> {
 // The counts are told before a row, and a row before the weight, which is tested at its edge.
 #[test]
 fn refused_steps(rt: HostRuntime) -> Result<(), Fail> {
-    let heap = rt.alloc();
     let light = [step(1, 10); 17];
     let heavy = [step(-32768, 5); 16];
     let bad = [step(-32768, 0); 17];
@@ -104,7 +96,7 @@ fn refused_steps(rt: HostRuntime) -> Result<(), Fail> {
         (&below[..], &above[..], (Ok(()), 16384, -16384)),
         (&light[0..16], &light[0..16], (Ok(()), 256, 256)),
     ] {
-        assert_eq!(rt; outcome(heap, x, y, (9, 0))?, expected);
+        assert_eq!(rt; outcome(x, y, (9, 0))?, expected);
     }
     Ok(())
 }

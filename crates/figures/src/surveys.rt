@@ -6,13 +6,12 @@ use maps::Map;
 use plans::Plan;
 use reports::measure;
 use sequences::Hammersley;
-use std::alloc::Global;
 use std::test::Fail;
 use survey::{Answer, Call, CommitFault, LimitFault, Report, Survey, TakeFault, replay};
 
 // The box 0, 32768, 0, 32768 with w 3.
-fn quarter(heap: Global) -> Result<Boxes, MapFault> {
-    let mut map = Boxes::new(heap);
+fn quarter() -> Result<Boxes, MapFault> {
+    let mut map = Boxes::new();
     let row = BoxRow {
         x0: 0,
         x1: 32768,
@@ -20,7 +19,7 @@ fn quarter(heap: Global) -> Result<Boxes, MapFault> {
         y1: 32768,
         w: 3,
     };
-    map.replace(heap, &[row])?;
+    map.replace(&[row])?;
     Ok(map)
 }
 
@@ -35,7 +34,7 @@ fn report(level: u32, count: u32, sum: i64, radius: u64) -> Report {
 
 #[test]
 fn takes_and_reports(rt: HostRuntime) -> Result<(), Fail> {
-    let mut survey = Survey::open(Hammersley::new(2)?, quarter(rt.alloc())?);
+    let mut survey = Survey::open(Hammersley::new(2)?, quarter()?);
     // k, the answer, and the report after it.
     for (k, answer, after) in [
         (0, Err(TakeFault::Nothing), report(2, 0, 0, 21)),
@@ -65,7 +64,7 @@ fn a_whole_life(rt: HostRuntime) -> Result<(), Fail> {
         Call::Begin(Hammersley::new(3)?),
         Call::Report,
         Call::Commit,
-        Call::MapPage(quarter(heap)?),
+        Call::MapPage(quarter()?),
         Call::Take(1),
         Call::Commit,
         Call::Report,
@@ -74,14 +73,14 @@ fn a_whole_life(rt: HostRuntime) -> Result<(), Fail> {
         Call::Abandon,
         Call::Report,
         Call::Begin(Hammersley::new(1)?),
-        Call::MapPage(quarter(heap)?),
+        Call::MapPage(quarter()?),
         Call::Commit,
         Call::Report,
         Call::Take(2),
         Call::Report,
         Call::Begin(Hammersley::new(0)?),
     ]?;
-    let answers = replay(heap, Hammersley::new(2)?, quarter(heap)?, calls)?;
+    let answers = replay(heap, Hammersley::new(2)?, quarter()?, calls)?;
     let expected = [
         Some(Answer::Taken(Ok(1))),
         Some(Answer::Limited(Err(LimitFault(9)))),
@@ -126,15 +125,14 @@ fn largest_numbers(rt: HostRuntime) -> Result<(), Fail> {
 
 #[test]
 fn whole_panels(rt: HostRuntime) -> Result<(), Fail> {
-    let heap = rt.alloc();
-    let measured = measure(Hammersley::new(2)?, quarter(heap)?);
+    let measured = measure(Hammersley::new(2)?, quarter()?);
     let text = "level 2\npoints 4\ntaken 4\nsum 3\nradius 9\naudit 12\n";
-    assert_eq!(rt; measured.to_string(heap)?.as_str(), text);
+    assert_eq!(rt; measured.text().as_str(), text);
 
     let mut map = Cells::new();
     map.replace(&[[-16384; 8]; 8])?;
     let measured = measure(Plan::Hammersley(Hammersley::new(12)?), Map::Cells(map));
     let text = "level 12\npoints 4096\ntaken 4096\nsum -67108864\nradius 212992\naudit 53248\n";
-    assert_eq!(rt; measured.to_string(heap)?.as_str(), text);
+    assert_eq!(rt; measured.text().as_str(), text);
     Ok(())
 }

@@ -1,3 +1,4 @@
 pub mod Jobs
 pub mod Kinds
+pub mod Lines
 pub mod Texts

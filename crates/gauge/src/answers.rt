@@ -1,5 +1,6 @@
 // What a line is answered.
-ghost use Rattle.std.specs.Prelude.{Some};
+ghost use Rattle.std.specs.Prelude.{◌≡◌, Some};
+ghost use Rattle.gauge.specs.Lines.{reply_to};
 ghost use Rattle.gauge.specs.Texts.{text};
 
 use crate::faults::Unreadable;
@@ -18,6 +19,8 @@ pub enum Reply {
 }
 
 impl From<Option<Answer>> for Reply {
+    ghost from_gives = { λ a r. r ≡ reply_to a };
+
     fn from(answer: Option<Answer>) -> Reply {
         match answer {
             Some(answer) => Reply::Answer(answer),
@@ -36,10 +39,10 @@ impl fmt::Display for Reply {
             Reply::Opened => write!(f, "opened"),
             Reply::Answer(Answer::Taken(Ok(count))) => write!(f, "taken {count}"),
             Reply::Answer(Answer::Taken(Err(TakeFault::Nothing))) => {
-                write!(f, "refused 21 place 0")
+                write!(f, "refused {} place {}", 21, 0)
             }
             Reply::Answer(Answer::Taken(Err(TakeFault::TooMany(left)))) => {
-                write!(f, "refused 22 place {left}")
+                write!(f, "refused {} place {left}", 22)
             }
             Reply::Answer(
                 Answer::Reported(
@@ -56,13 +59,13 @@ impl fmt::Display for Reply {
             ),
             Reply::Answer(Answer::Limited(Ok(()))) => write!(f, "limited"),
             Reply::Answer(Answer::Limited(Err(LimitFault(cost)))) => {
-                write!(f, "refused 23 place {cost}")
+                write!(f, "refused {} place {cost}", 23)
             }
             Reply::Answer(Answer::Begun) => write!(f, "begun"),
             Reply::Answer(Answer::Paged) => write!(f, "paged"),
             Reply::Answer(Answer::Committed(Ok(()))) => write!(f, "committed"),
             Reply::Answer(Answer::Committed(Err(CommitFault(cost)))) => {
-                write!(f, "refused 24 place {cost}")
+                write!(f, "refused {} place {cost}", 24)
             }
             Reply::Answer(Answer::Abandoned) => write!(f, "abandoned"),
             Reply::NotAllowed => write!(f, "not allowed"),

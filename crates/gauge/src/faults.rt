@@ -5,6 +5,7 @@ ghost use Rattle.std.specs.declared.io.ErrorKind.TheVariants as of_io;
 ghost use Rattle.jobs.specs.Refusals.{job_told};
 ghost use Rattle.gauge.specs.declared.faults.Unreadable.TheVariants as of_line;
 ghost use Rattle.gauge.specs.Jobs.{Tells};
+ghost use Rattle.gauge.specs.Lines.{level_line, load_line};
 ghost use Rattle.gauge.specs.Texts.{fault_text};
 
 use audit::{AuditFault, LoadFault};
@@ -27,15 +28,16 @@ pub enum Unreadable {
     File,
     // What is told of a job that is refused.
     Job(Refusal),
-    // 4.
+    // 4: the level, which is over 12.
     Level(u32),
     // 12 or 13 of a points page.
     Points(AuditFault),
-    // 7, 8 or 9 of a map page, or want of memory.
+    // 7, 8 or 9 of a map page.
     Map(MapFault),
+    // A page is not of the kind that was opened.
     PlanKind,
     MapKind,
-    // Want of memory elsewhere. It ends the program and is told in no line.
+    // Want of memory. It ends the program and is told in no line.
     Memory,
 }
 
@@ -59,7 +61,7 @@ impl fmt::Display for Unreadable {
             Unreadable::Map(MapFault::Weight) => write!(f, "refused 9"),
             Unreadable::PlanKind => write!(f, "another kind of plan"),
             Unreadable::MapKind => write!(f, "another kind of map"),
-            Unreadable::Map(MapFault::Memory) | Unreadable::Memory => write!(f, "out of memory"),
+            Unreadable::Memory => write!(f, "out of memory"),
         }
     }
 }
@@ -69,7 +71,7 @@ impl Error for Unreadable {}
 impl Unreadable {
     // Whether it ends the program.
     pub(crate) fn is_memory(self) -> bool {
-        matches!(self, Unreadable::Map(MapFault::Memory) | Unreadable::Memory)
+        matches!(self, Unreadable::Memory)
     }
 }
 
@@ -90,6 +92,8 @@ impl<T: Drop> From<AllocFailed<T>> for Unreadable {
 }
 
 impl From<LevelFault> for Unreadable {
+    ghost from_gives = { λ e r. r ≡ level_line e };
+
     fn from(e: LevelFault) -> Unreadable {
         let LevelFault::TooHigh(level) = e;
         Unreadable::Level(level)
@@ -97,6 +101,8 @@ impl From<LevelFault> for Unreadable {
 }
 
 impl From<LoadFault> for Unreadable {
+    ghost from_gives = { λ e r. r ≡ load_line e };
+
     fn from(e: LoadFault) -> Unreadable {
         match e {
             LoadFault::Audit(fault) => Unreadable::Points(fault),

@@ -29,7 +29,7 @@ fn read_file<R: Files + AllocGlobal>(rt: &R, path: &str) -> io::Result<Vec<u8>> 
 fn recipe_of(heap: Global, job: &[u8]) -> Result<Recipe, Unreadable>
     ensures { MatchResult result (IsJob job.now) (TellsOf job.now) }
 {
-    let mut recipe = Recipe::new(heap);
+    let mut recipe = Recipe::new();
     recipe.read(heap, job)?;
     Ok(recipe)
 }

@@ -40,15 +40,15 @@ fn read_any_map<R: Files + AllocGlobal>(rt: &R, words: &[&str]) -> Result<Map, U
 }
 
 fn boxes_of(heap: Global, words: &[&str]) -> Result<Map, Unreadable> {
-    let mut boxes = Boxes::new(heap);
-    boxes.replace(heap, &read_boxes(heap, words)?)?;
+    let mut boxes = Boxes::new();
+    boxes.replace(&read_boxes(heap, words)?)?;
     Ok(Map::Boxes(boxes))
 }
 
 fn steps_of(heap: Global, words: &[&str]) -> Result<Map, Unreadable> {
     let (x, y) = split_axes(words)?;
-    let mut steps = Steps::new(heap);
-    steps.replace(heap, &read_steps(heap, x)?, &read_steps(heap, y)?)?;
+    let mut steps = Steps::new();
+    steps.replace(&read_steps(heap, x)?, &read_steps(heap, y)?)?;
     Ok(Map::Steps(steps))
 }
 

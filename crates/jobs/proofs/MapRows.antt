@@ -59,7 +59,7 @@ pub ruleset writes = (to_z-of_z, written_none, written_more, written_row, writte
 not_all : {R : Type 0} (Bounds : R → Type 0) (rows : List R) (i : ℕ) → FirstOut Bounds rows i → All Bounds rows → ⊥
 not_all Bounds rows i first all = first.out (λ d. All-get_or Bounds rows i d first.here all)
 
--- a fault of rows is the first of the section's checks that is not passed, or want of memory after all of them
+-- a fault of rows is the first of the section's checks that is not passed
 pub boxes_refused : {X : Type 0} (bytes : List ℕ) (rows : List BoxRow) (old new : Boxes) (r : Result X MapFault) (e : MapFault) → BoxShape bytes → rows ≡ boxes bytes → BoxesReplaced rows old new r → r ≡ Err e → RowsRefused of_kind.Boxes bytes e
 unfolding map_checks
 boxes_refused bytes rows old new r e s listed replaced is = (grind (arith, length-map-range_with_len, length-append), λ start. grind (arith, not_all, length-map-range_with_len))

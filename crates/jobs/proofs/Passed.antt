@@ -22,10 +22,9 @@ pub layers_pass : (start : ℕ) (bytes : List ℕ) (l : LayerNumbers) → Layers
 layers_pass start bytes l h = grind arith
 
 -- a job whose map is refused
-pub map_refused : (job : List ℕ) (t : Told) → Passes (directory_checks job) → Passes (plan_checks_of job) → Passes (layer_checks_of job) → Refused (map_checks_of job) t → Refused (checks job) t
+pub map_refused : (job : List ℕ) (t : Told) → Passes (directory_checks job) → Passes (plan_checks_of job) → Passes (layer_checks_of job) → First (map_checks_of job) t → First (checks job) t
 unfolding checks
-map_refused job t d p l (inl f) = inl (inr (d.0, inr (d.1.0, inr (d.1.1.0, inr (d.1.1.1.0, inr (p.0, inr (p.1.0, inr (p.1.1.0, inr (p.1.1.1.0, inr (l.0, f))))))))))
-map_refused job t d p l (inr (m, e)) = inr ((d.0, (d.1.0, (d.1.1.0, (d.1.1.1.0, (p.0, (p.1.0, (p.1.1.0, (p.1.1.1.0, (l.0, m))))))))), e)
+map_refused job t d p l f = inr (d.0, inr (d.1.0, inr (d.1.1.0, inr (d.1.1.1.0, inr (p.0, inr (p.1.0, inr (p.1.1.0, inr (p.1.1.1.0, inr (l.0, f)))))))))
 
 pub job_passes : (job : List ℕ) (r : Recipe) → IsJob job r → Passes (checks job)
 unfolding checks
@@ -35,6 +34,6 @@ job_passes job r h =
     ((h.long, h.short), (h.plan_in_place, (h.layers_in_place, (h.map_in_place, (p.0, (p.1.0, (p.1.1.0, (p.1.1.1.0, (l.0, map_passes (offset job 2) _ _ h.map)))))))))
 
 -- only memory can be wanting for a job that lays down a recipe
-pub wanting : (job : List ℕ) (r : Recipe) (t : Told) → IsJob job r → Refused (checks job) t → t ≡ no_memory
+pub wanting : (job : List ℕ) (r : Recipe) (t : Told) → IsJob job r → Refused job t → t ≡ no_memory
 wanting job r t h (inl f) = absurd (not_refused (checks job) t (job_passes job r h) f)
 wanting job r t h (inr (p, e)) = e

@@ -24,10 +24,6 @@ abbrev pub First : List Check → Told → Type 0
 First [] t = ⊥
 First (c ∷ cs) t = ((c.Passed → ⊥) × c.Tells t) ⊎ (c.Passed × First cs t)
 
--- what is told of what does not pass all, or of what does where memory is wanting
-abbrev pub Refused : List Check → Told → Type 0
-Refused cs t = First cs t ⊎ (Passes cs × (t ≡ no_memory))
-
 -- a check that tells a number, a section and a place
 abbrev pub check : (number section place : ℕ) → Type 0 → Check
 check number section place passed = record { Passed = passed; Tells = λ t. t ≡ refused number (section ∷ place ∷ []) }
@@ -88,3 +84,11 @@ map_checks_of job = map_checks (offset job 2) (section job 2)
 
 unfoldable pub checks : (job : List ℕ) → List Check
 checks job = directory_checks job ++ plan_checks_of job ++ layer_checks_of job ++ map_checks_of job
+
+-- a job that passes all checks, and has a list of places, the only part of a job that needs memory
+abbrev pub NeedsMemory : (job : List ℕ) → Type 0
+NeedsMemory job = Passes (checks job) × (kind (section job 0) ≡ 2)
+
+-- what is told of a job that is not read: the first check that it does not pass, or want of memory
+abbrev pub Refused : (job : List ℕ) → Told → Type 0
+Refused job t = First (checks job) t ⊎ (NeedsMemory job × (t ≡ no_memory))

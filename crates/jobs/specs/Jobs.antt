@@ -6,10 +6,12 @@ use Rattle.maps.specs.Kinds.{terms_of}
 use Rattle.maps.specs.Kinds.{kind_of as map_kind_of}
 use Rattle.plans.specs.declared.plan.PlanKind.TheVariants as of_plan
 use Rattle.plans.specs.Plans.{kind_of, level_of, places_of}
-use Rattle.jobs.specs.Checks.{Refused, checks}
-use Rattle.jobs.specs.Layout.{InPlace, section, PlanLaid, LayersLaid, MapLaid}
+use Rattle.jobs.specs.Checks.{Refused}
+use Rattle.jobs.specs.Layout.{InPlace, Shape, offset, section, PlanLaid, LayersLaid, MapLaid}
 use Rattle.jobs.specs.Refusals.{job_told}
 use Rattle.jobs.specs.declared.faults.JobFault.{JobFault}
+use Rattle.jobs.specs.declared.faults.JobFault.TheVariants as of_job
+use Rattle.jobs.specs.declared.faults.MapSectionFault.TheVariants as of_section
 use Rattle.jobs.specs.declared.recipe.Recipe.{Recipe}
 
 -- a job, and the recipe that it lays down
@@ -23,11 +25,15 @@ pub record IsJob (job : List ℕ) (r : Recipe) : Type 0 where
   pub layers : LayersLaid (section job 1) r.layers
   pub map : MapLaid (section job 2) r.map
 
--- a job is read into the recipe; any other is refused, and leaves it as it was. Memory is wanting for no job that would be
--- refused by a check
+-- a job is read into the recipe; any other is refused, and leaves it as it was
 abbrev pub Reads : (job : List ℕ) (old new : Recipe) → {X : Type 0} → Result X JobFault → Type 0
 Reads job old new (Ok _) = IsJob job new
-Reads job old new (Err e) = Refused (checks job) (job_told e) × (new ≡ old)
+Reads job old new (Err e) = Refused job (job_told e) × (new ≡ old)
+
+-- rows at fault are those of the map section, by its start and its kind
+abbrev pub RowsOf : (job : List ℕ) → JobFault → Type 0
+RowsOf job (of_job.Map (of_section.Rows e)) = (e.start ≡ offset job 2) × Shape e.kind (section job 2)
+RowsOf job _ = ⊤
 
 -- it is read, unless memory is wanting
 abbrev pub Accepts : {X : Type 0} → Result X JobFault → Type 0

@@ -149,6 +149,6 @@ pub record CellsLaid (bytes : List ℕ) (c : ℕ → ℕ → ℤ) : Type 0 where
   pub light : weight (cells_terms c) ≤ 16384
 
 abbrev pub MapLaid : List ℕ → Map → Type 0
-MapLaid bytes (coat.Boxes m) = BoxesLaid bytes (vec_items m.rows)
-MapLaid bytes (coat.Steps m) = StepsLaid bytes (vec_items m.x) (vec_items m.y)
+MapLaid bytes (coat.Boxes m) = BoxesLaid bytes m.rows.items
+MapLaid bytes (coat.Steps m) = StepsLaid bytes m.x.items m.y.items
 MapLaid bytes (coat.Cells m) = CellsLaid bytes (held m.table)

@@ -50,7 +50,6 @@ abbrev pub rows_told : (start : ℕ) → MapKind → MapFault → Told
 rows_told start kind of_rows.Count = refused 7 (3 ∷ start ∷ [])
 rows_told start kind (of_rows.Row i) = refused 8 (3 ∷ (start + row_byte kind i) ∷ [])
 rows_told start kind of_rows.Weight = refused 9 (3 ∷ start ∷ [])
-rows_told start kind of_rows.Memory = no_memory
 
 abbrev pub map_section_told : MapSectionFault → Told
 map_section_told (of_map.Layout start) = refused 7 (3 ∷ start ∷ [])

@@ -53,7 +53,7 @@ pub struct RowsAt {
 pub enum MapSectionFault {
     // 7: the section that starts at this byte is of no kind, has too many rows, or is not as long as they are.
     Layout(u16),
-    // 8 or 9, or want of memory.
+    // 8 or 9.
     Rows(RowsAt),
 }
 

@@ -1,7 +1,8 @@
 // A job file by its directory: where its sections lie, and what each of them says.
-ghost use Rattle.std.specs.Prelude.{◌≡◌, ℕ, ◌+◌, ◌*◌, ◌<◌, ◌≤◌, length, MatchResult, slice_range};
-ghost use Rattle.jobs.specs.Checks.{First, Passes, Refused, directory_checks, plan_checks_of, layer_checks_of, map_checks_of};
+ghost use Rattle.std.specs.Prelude.{◌≡◌, ℕ, ◌+◌, ◌*◌, ◌<◌, ◌≤◌, length, IfErr, MatchResult, slice_range};
+ghost use Rattle.jobs.specs.Checks.{First, Passes, directory_checks, plan_checks_of, layer_checks_of, map_checks_of};
 ghost use Rattle.jobs.specs.Extents.{IsPair};
+ghost use Rattle.jobs.specs.Findings.{RowsIn};
 ghost use Rattle.jobs.specs.Layout.{offset, size, section, LayersLaid, MapLaid};
 ghost use Rattle.jobs.specs.Refusals.{directory_told, plan_told, layers_told, map_section_told};
 
@@ -12,7 +13,6 @@ use crate::map_section::read_map;
 use crate::plan_section::PlanSection;
 use little_endian::u16_at;
 use maps::Map;
-use std::alloc::Global;
 
 // The bytes of the directory.
 const DIRECTORY: usize = 12;
@@ -72,11 +72,12 @@ impl JobFile<'_> {
         read_layers(self.layers.off, part(self.bytes, self.layers))
     }
 
-    pub(crate) fn map(&self, heap: Global) -> Result<Map, MapSectionFault>
-        ensures { let job = self.now.bytes.now in MatchResult result (λ m. MapLaid (section job 2) m × Passes (map_checks_of job))
-            (λ e. Refused (map_checks_of job) (map_section_told e)) }
+    pub(crate) fn map(&self) -> Result<Map, MapSectionFault>
+        ensures laid { let job = self.now.bytes.now in MatchResult result (λ m. MapLaid (section job 2) m × Passes (map_checks_of job))
+            (λ e. First (map_checks_of job) (map_section_told e)) }
+        ensures rows { let job = self.now.bytes.now in IfErr result (RowsIn (offset job 2) (section job 2)) }
     {
-        read_map(heap, self.map.off, part(self.bytes, self.map))
+        read_map(self.map.off, part(self.bytes, self.map))
     }
 }
 

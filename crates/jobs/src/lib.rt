@@ -11,6 +11,7 @@ mod plan_section;
 pub mod recipe;
 pub mod refusal;
 mod tellings;
+pub mod texts;
 
 pub use faults::{
     DirectoryFault, JobFault, LayerSectionFault, MapSectionFault, PlanSectionFault, PointsAt,
@@ -20,3 +21,4 @@ pub use file::LONGEST;
 pub use layer_numbers::{LayerNumbers, LayeredPlan};
 pub use recipe::Recipe;
 pub use refusal::Refusal;
+pub use texts::{Text, push_number};

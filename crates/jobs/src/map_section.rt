@@ -1,28 +1,22 @@
 // The map section of a job file.
-ghost use Rattle.std.specs.Prelude.{◌≡◌, ◌<◌, ◌≤◌, map, slice_index, vec_items, MatchOption, MatchResult};
+ghost use Rattle.std.specs.Prelude.{◌≡◌, ◌<◌, ◌≤◌, map, slice_index, IfErr, MatchOption, MatchResult};
 ghost use Rattle.std.specs.List.{range_with_len};
 ghost use Rattle.cells.specs.Tables.{held};
 ghost use Rattle.maps.specs.declared.map.MapKind.TheVariants as of_kind;
-ghost use Rattle.jobs.specs.Checks.{Passes, Refused, map_checks};
-ghost use Rattle.jobs.specs.Findings.{RowsRefused};
+ghost use Rattle.jobs.specs.Checks.{First, Passes, map_checks};
+ghost use Rattle.jobs.specs.Findings.{RowsIn, RowsRefused};
 ghost use Rattle.jobs.specs.Layout.{MapLaid, BoxesLaid, StepsLaid, CellsLaid, Shape, Shaped, BoxShape, StepShape, CellShape, box_at as box_of, boxes as boxes_of, step_at as step_of, x_steps, y_steps, cell_row as cell_row_of, cells as cells_of};
 ghost use Rattle.jobs.specs.Refusals.{map_section_told};
 ghost use Rattle.jobs.specs.Rows.{row_of};
 
 use crate::faults::{MapSectionFault, RowsAt};
 use arrayvec::ArrayVec;
-use boxes::{BoxRow, Boxes};
+use boxes::{BoxRow, Boxes, MOST_BOXES};
 use cells::Cells;
 use coats::MapFault;
 use little_endian::{byte_at, i16_at, u32_at};
 use maps::{Map, MapKind};
-use std::alloc::Global;
-use steps::{Step, Steps};
-
-// The most boxes, and the most steps along an axis.
-const MOST_BOXES: usize = 32;
-
-const MOST_STEPS: usize = 16;
+use steps::{MOST_STEPS, Step, Steps};
 
 // The bytes of a box, of a step, and of a section of cells.
 const BOX_SIZE: usize = 18;
@@ -33,11 +27,12 @@ const CELLS_SIZE: usize = 129;
 
 // The map of a section that starts at this byte of the file.
 #[tactic(auto, using(crate::proofs::MapRows::not_shaped, crate::proofs::MapRows::map_passes))]
-pub(crate) fn read_map(heap: Global, start: u16, bytes: &[u8]) -> Result<Map, MapSectionFault>
-    ensures { MatchResult result (λ m. MapLaid bytes.now m × Passes (map_checks start bytes.now)) (λ e. Refused (map_checks start bytes.now) (map_section_told e)) }
+pub(crate) fn read_map(start: u16, bytes: &[u8]) -> Result<Map, MapSectionFault>
+    ensures laid { MatchResult result (λ m. MapLaid bytes.now m × Passes (map_checks start bytes.now)) (λ e. First (map_checks start bytes.now) (map_section_told e)) }
+    ensures rows { IfErr result (RowsIn start bytes.now) }
 {
     let kind = map_kind(bytes).ok_or(MapSectionFault::Layout(start))?;
-    let map = read_rows(heap, kind, bytes).map_err(
+    let map = read_rows(kind, bytes).map_err(
         |fault|
             requires { row_of fault ≤ 32 }
         { RowsAt { start, kind, fault } },
@@ -63,26 +58,24 @@ fn map_kind(bytes: &[u8]) -> Option<MapKind>
     (few && bytes.len() == size).then_some(kind)
 }
 
-// Rows are gathered without asking for memory, so that it can be wanting only once they have passed
-// all checks.
-fn read_rows(heap: Global, kind: MapKind, bytes: &[u8]) -> Result<Map, MapFault>
+fn read_rows(kind: MapKind, bytes: &[u8]) -> Result<Map, MapFault>
     requires { Shape kind bytes.now }
     ensures { MatchResult result (MapLaid bytes.now) (RowsRefused kind bytes.now) }
 {
     match kind {
-        MapKind::Boxes => Ok(Map::Boxes(read_boxes(heap, bytes)?)),
-        MapKind::Steps => Ok(Map::Steps(read_steps(heap, bytes)?)),
+        MapKind::Boxes => Ok(Map::Boxes(read_boxes(bytes)?)),
+        MapKind::Steps => Ok(Map::Steps(read_steps(bytes)?)),
         MapKind::Cells => Ok(Map::Cells(read_cells(bytes)?)),
     }
 }
 
 #[tactic(auto, using(crate::proofs::MapRows::boxes_refused))]
-fn read_boxes(heap: Global, bytes: &[u8]) -> Result<Boxes, MapFault>
+fn read_boxes(bytes: &[u8]) -> Result<Boxes, MapFault>
     requires { BoxShape bytes.now }
-    ensures { MatchResult result (λ m. BoxesLaid bytes.now (vec_items m.rows)) (RowsRefused of_kind.Boxes bytes.now) }
+    ensures { MatchResult result (λ m. BoxesLaid bytes.now m.rows.items) (RowsRefused of_kind.Boxes bytes.now) }
 {
-    let mut boxes = Boxes::new(heap);
-    boxes.replace(heap, &box_rows(bytes))?;
+    let mut boxes = Boxes::new();
+    boxes.replace(&box_rows(bytes))?;
     Ok(boxes)
 }
 
@@ -114,12 +107,12 @@ fn box_at(bytes: &[u8], i: usize) -> BoxRow
 }
 
 #[tactic(auto, using(crate::proofs::MapRows::steps_refused))]
-fn read_steps(heap: Global, bytes: &[u8]) -> Result<Steps, MapFault>
+fn read_steps(bytes: &[u8]) -> Result<Steps, MapFault>
     requires { StepShape bytes.now }
-    ensures { MatchResult result (λ m. StepsLaid bytes.now (vec_items m.x) (vec_items m.y)) (RowsRefused of_kind.Steps bytes.now) }
+    ensures { MatchResult result (λ m. StepsLaid bytes.now m.x.items m.y.items) (RowsRefused of_kind.Steps bytes.now) }
 {
-    let mut steps = Steps::new(heap);
-    steps.replace(heap, &x_rows(bytes), &y_rows(bytes))?;
+    let mut steps = Steps::new();
+    steps.replace(&x_rows(bytes), &y_rows(bytes))?;
     Ok(steps)
 }
 

@@ -47,7 +47,7 @@ impl PlanSection<'_> {
 
     // The plan that it lays down.
     pub(crate) fn plan(&self, heap: Global) -> Result<Plan, AllocError>
-        ensures { IfOk result (PlanLaid self.now.bytes.now) }
+        ensures { MatchResult result (PlanLaid self.now.bytes.now) (λ _. kind self.now.bytes.now ≡ 2) }
     {
         let level = self.level;
         match self.kind {

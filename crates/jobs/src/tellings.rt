@@ -1,5 +1,5 @@
 // What each fault of a job tells, and the text of it.
-ghost use Rattle.std.specs.Prelude.{◌≡◌, ◌^◌, ◌<◌, ◌≤◌, Some, MatchOption};
+ghost use Rattle.std.specs.Prelude.{◌≡◌, ◌≤◌, length, Some, MatchOption};
 ghost use Rattle.nets.specs.Refusals.{no_memory};
 ghost use Rattle.jobs.specs.Refusals.{directory_told, plan_told, layers_told, map_section_told, rows_told, job_told, refusal_told, row_byte as byte_of};
 ghost use Rattle.jobs.specs.Texts.{told_text};
@@ -9,6 +9,7 @@ use crate::faults::{
     RowsAt,
 };
 use crate::refusal::Refusal;
+use crate::texts::{Text, push_number};
 use audit::NotNet;
 use coats::MapFault;
 use maps::MapKind;
@@ -24,7 +25,7 @@ impl JobFault {
             JobFault::Directory(fault) => Some(fault.refusal()),
             JobFault::Plan(fault) => Some(fault.refusal()),
             JobFault::Layers(fault) => Some(fault.refusal()),
-            JobFault::Map(fault) => fault.refusal(),
+            JobFault::Map(fault) => Some(fault.refusal()),
             JobFault::Memory => None,
         }
     }
@@ -73,26 +74,25 @@ impl LayerSectionFault {
 }
 
 impl MapSectionFault {
-    fn refusal(self) -> Option<Refusal>
-        ensures { MatchOption result (map_section_told self ≡ no_memory) (λ r. map_section_told self ≡ refusal_told r) }
+    fn refusal(self) -> Refusal
+        ensures { map_section_told self ≡ refusal_told result }
     {
         match self {
-            MapSectionFault::Layout(start) => Some(Refusal::of(7, 3, u32::from(start))),
+            MapSectionFault::Layout(start) => Refusal::of(7, 3, u32::from(start)),
             MapSectionFault::Rows(rows) => rows.refusal(),
         }
     }
 }
 
 impl RowsAt {
-    fn refusal(self) -> Option<Refusal>
-        ensures { MatchOption result (rows_told self.start self.kind self.fault ≡ no_memory) (λ r. rows_told self.start self.kind self.fault ≡ refusal_told r) }
+    fn refusal(self) -> Refusal
+        ensures { rows_told self.start self.kind self.fault ≡ refusal_told result }
     {
         let start = u32::from(self.start);
         match self.fault {
-            MapFault::Count => Some(Refusal::of(7, 3, start)),
-            MapFault::Row(row) => Some(Refusal::of(8, 3, start + row_byte(self.kind, row as u32))),
-            MapFault::Weight => Some(Refusal::of(9, 3, start)),
-            MapFault::Memory => None,
+            MapFault::Count => Refusal::of(7, 3, start),
+            MapFault::Row(row) => Refusal::of(8, 3, start + row_byte(self.kind, row as u32)),
+            MapFault::Weight => Refusal::of(9, 3, start),
         }
     }
 }
@@ -112,7 +112,6 @@ fn row_byte(kind: MapKind, row: u32) -> u32
 
 impl Refusal {
     fn of(number: u32, section: u32, place: u32) -> Refusal
-        requires { (number ≤ 13) × (section ≤ 3) × (place < 10 ^ 6) }
         ensures { (result.number ≡ number) × (result.section ≡ section) × (result.place ≡ place) × (result.empty ≡ None) }
     {
         Refusal {
@@ -124,22 +123,30 @@ impl Refusal {
     }
 }
 
+impl Refusal {
+    // Its text, which needs no memory.
+    pub fn text(self) -> Text
+        ensures value { result.bytes ≡ told_text (refusal_told self) }
+        ensures short { length result.bytes ≤ 91 }
+    {
+        let mut text = Text::new();
+        push_number(&mut text, "refused ", self.number);
+        push_number(&mut text, " section ", self.section);
+        push_number(&mut text, " place ", self.place);
+        if let Some(NotNet { depth, interval }) = self.empty {
+            push_number(&mut text, " depth ", depth);
+            push_number(&mut text, " interval ", interval);
+        }
+        text
+    }
+}
+
 // Written by hand, since the text is proved.
 impl fmt::Display for Refusal {
     ghost output = { λ r. Some (told_text (refusal_told r)) };
 
     fn fmt<W: fmt::Write>(&self, f: &mut fmt::Formatter<W>) -> fmt::Result {
-        let Refusal {
-            number,
-            section,
-            place,
-            empty,
-        } = self;
-        write!(f, "refused {number} section {section} place {place}")?;
-        match empty {
-            Some(NotNet { depth, interval }) => write!(f, " depth {depth} interval {interval}"),
-            None => Ok(()),
-        }
+        write!(f, "{}", self.text())
     }
 }
 

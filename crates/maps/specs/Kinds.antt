@@ -1,5 +1,5 @@
 -- What a map of any kind means.
-use Rattle.std.specs.Prelude.{List, vec_items}
+use Rattle.std.specs.Prelude.{List}
 use Rattle.coats.specs.declared.term.Term.{Term}
 use Rattle.maps.specs.declared.map.Map.{Map}
 use Rattle.maps.specs.declared.map.Map.TheVariants.{Boxes, Steps, Cells}
@@ -16,6 +16,6 @@ kind_of (Steps m) = kind.Steps
 kind_of (Cells m) = kind.Cells
 
 abbrev pub terms_of : Map → List Term
-terms_of (Boxes m) = boxes_terms (vec_items m.rows)
-terms_of (Steps m) = steps_terms (vec_items m.x) (vec_items m.y)
+terms_of (Boxes m) = boxes_terms (m.rows.items)
+terms_of (Steps m) = steps_terms m.x.items m.y.items
 terms_of (Cells m) = cells_terms (held m.table)

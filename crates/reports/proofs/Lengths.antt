@@ -1,5 +1,5 @@
 -- The text of what is measured is short.
-use Rattle.std.proofs.Common.{ℕ, ◌≤◌, length, ℤ, pos, negsuc, nat_abs, arith, length-append}
+use Rattle.std.proofs.Common.{◌≡◌, ℕ, ◌≤◌, List, length, ap, ℤ, pos, negsuc, nat_abs, arith, length-append}
 use Rattle.std.specs.Int.Signed.{mag}
 use Rattle.std.proofs.lemmas.Fmt.{length-decimal-le, length_signed_le}
 use Rattle.reports.specs.declared.measured.Measured.{Measured}
@@ -9,7 +9,7 @@ mag_small : (z : ℤ) → mag z ≤ nat_abs z
 mag_small (pos n) = omega arith
 mag_small (negsuc n) = omega arith
 
-pub measured_short : (x : Measured) → length (measured_text x) ≤ 96
+measured_short : (x : Measured) → length (measured_text x) ≤ 96
 measured_short x =
     omega (
       arith,
@@ -23,3 +23,6 @@ measured_short x =
       length-decimal-le 6 x.report.radius,
       length-decimal-le 5 x.audit,
     )
+
+pub text_short : (x : Measured) (text : List ℕ) → text ≡ measured_text x → length text ≤ 96
+text_short x text e = omega (arith, ap {B = ℕ} length e, measured_short x)

@@ -2,4 +2,3 @@ pub mod Lengths
 pub mod Wholes
 pub mod Layered
 pub mod Told
-pub mod Outcomes

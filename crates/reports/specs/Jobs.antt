@@ -7,7 +7,7 @@ use Rattle.maps.specs.Kinds.{terms_of}
 use Rattle.survey.specs.Recipes as survey
 use Rattle.jobs.specs.declared.layer_numbers.LayerNumbers.{LayerNumbers}
 use Rattle.jobs.specs.declared.recipe.Recipe.{Recipe}
-use Rattle.jobs.specs.Checks.{First, Passes, checks}
+use Rattle.jobs.specs.Checks.{First, NeedsMemory, checks}
 use Rattle.jobs.specs.Jobs.{IsJob}
 use Rattle.jobs.specs.Refusals.{refusal_told}
 use Rattle.reports.specs.Measures.{Measures}
@@ -27,7 +27,7 @@ abbrev pub Says : (job : List ℕ) → Outcome → Type 0
 Says job (Measured x) = (r : Recipe) × IsJob job r × Measures (meaning r) x
 Says job (Refused e) = First (checks job) (refusal_told e)
 
--- memory is wanting for no job that a check refuses
+-- it is said, unless memory is wanting
 abbrev pub Examines : (job : List ℕ) → {X : Type 0} → Result Outcome X → Type 0
 Examines job (Ok o) = Says job o
-Examines job (Err _) = Passes (checks job)
+Examines job (Err _) = NeedsMemory job

@@ -1,6 +1,7 @@
 -- What writing the text of a job answers, and what the place for it then holds.
 use Rattle.std.specs.Prelude.{◌≡◌, ℕ, ◌≤◌, ◌<◌, ◌⊎◌, List, [], ◌∷◌, ◌++◌, length, drop, Ok, Err, Result}
 use Rattle.nets.specs.Refusals.{Told, refused, no_memory}
+use Rattle.jobs.specs.Checks.{NeedsMemory}
 use Rattle.reports.specs.Jobs.{Says}
 use Rattle.reports.specs.Outcomes.{outcome_text}
 use Rattle.reports.specs.Refusals.{text_told}
@@ -13,11 +14,11 @@ pub record Stands (text old new : List ℕ) (n : ℕ) : Type 0 where
   pub count : n ≡ length text
   pub place : new ≡ text ++ drop n old
 
--- for any job, a place of n bytes that is too short is refused with 31, or else memory may be wanting
-abbrev pub Unwritten : (n : ℕ) → Told → Type 0
-Unwritten n t = ((n < 96) × (t ≡ refused 31 (n ∷ []))) ⊎ ((96 ≤ n) × (t ≡ no_memory))
+-- for any job, a place of n bytes is refused with 31 if it is too short; for some jobs, memory may be wanting
+abbrev pub Unwritten : (job : List ℕ) (n : ℕ) → Told → Type 0
+Unwritten job n t = ((n < 96) × (t ≡ refused 31 (n ∷ []))) ⊎ ((96 ≤ n) × NeedsMemory job × (t ≡ no_memory))
 
 -- the text of what is said of a job is written, or else the place is left as it was
 abbrev pub Writes : (job old new : List ℕ) → Result ℕ TextFault → Type 0
 Writes job old new (Ok n) = (o : Outcome) × Says job o × Stands (outcome_text o) old new n
-Writes job old new (Err e) = Unwritten (length old) (text_told e) × (new ≡ old)
+Writes job old new (Err e) = Unwritten job (length old) (text_told e) × (new ≡ old)

@@ -19,7 +19,7 @@ pub const ROOM: usize = 96;
 pub fn examine(heap: Global, job: &[u8]) -> Result<Outcome, AllocError>
     ensures { Examines job.now result }
 {
-    let mut recipe = Recipe::new(heap);
+    let mut recipe = Recipe::new();
     match recipe.read(heap, job) {
         Ok(()) => Ok(Outcome::Measured(measure_recipe(recipe))),
         Err(fault) => match fault.refusal() {
@@ -37,7 +37,6 @@ fn measure_recipe(recipe: Recipe) -> Measured
 }
 
 // Writes the text of a job at the start of a place, and answers how many bytes it has.
-#[tactic(auto, using(crate::proofs::Outcomes::outcome_short))]
 pub fn write_report(heap: Global, job: &[u8], place: &mut [u8]) -> Result<usize, TextFault>
     ensures { Writes job.now place.old place.new result }
 {
@@ -45,6 +44,5 @@ pub fn write_report(heap: Global, job: &[u8], place: &mut [u8]) -> Result<usize,
         return Err(TextFault::Short(place.len()));
     }
     let outcome = examine(heap, job)?;
-    let text = outcome.to_string(heap)?;
-    Ok(put(text.as_str(), place))
+    Ok(put(outcome.text().as_str(), place))
 }

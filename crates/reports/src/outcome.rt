@@ -1,12 +1,11 @@
 // What is said of a job.
-ghost use Rattle.std.specs.Prelude.{Some};
+ghost use Rattle.std.specs.Prelude.{◌≡◌, ◌≤◌, length};
 ghost use Rattle.reports.specs.Outcomes.{outcome_text};
 
 use crate::measured::Measured;
-use jobs::Refusal;
-use std::fmt;
+use jobs::{Refusal, Text};
 
-// No `Result`, since a refusal is an answer too, and the type prints itself.
+// No `Result`, since a refusal is an answer too.
 #[derive(Clone, Copy, Debug, PartialEq, Eq)]
 pub enum Outcome {
     // What is measured of the whole panel.
@@ -14,14 +13,20 @@ pub enum Outcome {
     Refused(Refusal),
 }
 
-// Written by hand, since the text is proved.
-impl fmt::Display for Outcome {
-    ghost output = { λ o. Some (outcome_text o) };
-
-    fn fmt<W: fmt::Write>(&self, f: &mut fmt::Formatter<W>) -> fmt::Result {
+impl Outcome {
+    // Its text, which needs no memory.
+    #[tactic(auto, using(crate::proofs::Lengths::text_short))]
+    pub fn text(self) -> Text
+        ensures value { result.bytes ≡ outcome_text self }
+        ensures short { length result.bytes ≤ 96 }
+    {
         match self {
-            Outcome::Measured(measured) => write!(f, "{measured}"),
-            Outcome::Refused(refusal) => writeln!(f, "{refusal}"),
+            Outcome::Measured(measured) => measured.text(),
+            Outcome::Refused(refusal) => {
+                let mut text = refusal.text();
+                text.push_str("\n");
+                text
+            }
         }
     }
 }

@@ -1,30 +1,23 @@
 // The text of what is measured.
-ghost use Rattle.std.specs.Prelude.{Some};
+ghost use Rattle.std.specs.Prelude.{◌≡◌};
 ghost use Rattle.reports.specs.Texts.{measured_text};
 
 use crate::measured::Measured;
-use std::fmt;
-use survey::Report;
+use jobs::{Text, push_number};
 
-// Written by hand, since the text is proved.
-impl fmt::Display for Measured {
-    ghost output = { λ x. Some (measured_text x) };
-
-    fn fmt<W: fmt::Write>(&self, f: &mut fmt::Formatter<W>) -> fmt::Result {
-        let Measured {
-            points,
-            report,
-            audit,
-        } = self;
-        let Report {
-            level,
-            count,
-            sum,
-            radius,
-        } = report;
-        writeln!(
-            f,
-            "level {level}\npoints {points}\ntaken {count}\nsum {sum}\nradius {radius}\naudit {audit}"
-        )
+impl Measured {
+    // Six lines, which need no memory.
+    pub fn text(self) -> Text
+        ensures { result.bytes ≡ measured_text self }
+    {
+        let mut text = Text::new();
+        push_number(&mut text, "level ", self.report.level);
+        push_number(&mut text, "\npoints ", self.points);
+        push_number(&mut text, "\ntaken ", self.report.count);
+        push_number(&mut text, "\nsum ", self.report.sum);
+        push_number(&mut text, "\nradius ", self.report.radius);
+        push_number(&mut text, "\naudit ", self.audit);
+        text.push_str("\n");
+        text
     }
 }

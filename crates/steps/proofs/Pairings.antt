@@ -1,6 +1,7 @@
 -- What steps weigh, the coat that they give, and the sides of their terms.
-use Rattle.std.proofs.Common.{◌≡◌, ℕ, ◌*◌, ◌≤◌, Bool, true, false, cond, ◌&&◌, ltb, List, [], ◌∷◌, ◌++◌, map, length, ℤ, pos, ◌+ℤ◌, ◌*ℤ◌, nat_abs, sum_by, sym, refl, ap, ◌∙◌, subst, add-mul, mul-add, w32, SFits, arith}
-use Rattle.std.proofs.lemmas.Int.{ints}
+use Rattle.std.proofs.Common.{◌≡◌, ℕ, ◌+◌, ◌*◌, ◌≤◌, Bool, true, false, cond, ◌&&◌, ltb, List, [], ◌∷◌, ◌++◌, map, length, ℤ, pos, ◌+ℤ◌, ◌*ℤ◌, nat_abs, sum_by, sym, refl, ap, ◌∙◌, subst, add-mul, mul-add, w32, SFits, arith}
+use Rattle.std.proofs.lemmas.Int.{ints, unsigned_abs-mul}
+use borrow.Author.Differences.{up, down, same_in, sum_is_lem, product_is}
 use lib.IntN.{zero-*ℤ, *ℤ-zero, *ℤ_comm}
 use Rattle.std.specs.List.{All}
 use Rattle.std.proofs.Math.Seq.{take-append_seam, drop-append_seam}
@@ -9,7 +10,6 @@ use Rattle.std.proofs.lemmas.List.Sums.{sum_by-cons, sum_by-append}
 use Rattle.nets.specs.Places.{Place}
 use Rattle.coats.specs.declared.term.Term.{Term}
 use Rattle.coats.specs.Terms.{sum_of, share, coat, weight, Sides}
-use Rattle.coats.proofs.Products.{times_sum, nat_abs_times}
 use Rattle.coats.proofs.Sums.{sum_of_same, sum_of_map, sum_of_joined, all_joined, coat_light}
 use Rattle.steps.specs.declared.row.Step.{Step}
 use Rattle.steps.specs.Rows.{pairing, rise, steps_terms, StepBounds}
@@ -21,6 +21,13 @@ both : (a b : Bool) (g h : ℤ) → cond (a && b) (g *ℤ h) (pos 0) ≡ cond a 
 both true true g h = refl
 both true false g h = sym (*ℤ-zero g)
 both false b g h = sym (zero-*ℤ (cond b h (pos 0)))
+
+times_sum : (a b c : ℤ) → a *ℤ (b +ℤ c) ≡ a *ℤ b +ℤ a *ℤ c
+times_sum a b c =
+    let sum : up (b +ℤ c) + (down b + down c) ≡ up b + up c + down (b +ℤ c) = omega (arith, sum_is_lem) in
+    let above = ap (λ (n : ℕ). up a * n) sum in
+    let below = ap (λ (n : ℕ). down a * n) sum in
+    omega (arith, same_in, sum_is_lem, product_is)
 
 -- the sum of products by one number
 module _ {X : Type 0} (a : ℤ) (f : X → ℤ) where
@@ -50,7 +57,7 @@ one_weight : (a : Step) (ys : List Step) → weight (map (pairing a) ys) ≡ siz
 one_weight a [] = omega arith
 one_weight a (b ∷ ys) =
     sum_by-cons (λ (t : Term). nat_abs t.w) (pairing a b) (map (pairing a) ys)
-    ∙ (let p = nat_abs_times a.value b.value in let q = mul-add (size a) (size b) (sum_by size ys) in let rest = one_weight a ys in rw (sum_by-cons size b ys) (omega arith))
+    ∙ (let p = unsigned_abs-mul a.value b.value in let q = mul-add (size a) (size b) (sum_by size ys) in let rest = one_weight a ys in rw (sum_by-cons size b ys) (omega arith))
 
 pub steps_weight : (xs ys : List Step) → weight (steps_terms xs ys) ≡ sum_by size xs * sum_by size ys
 steps_weight [] ys = omega arith

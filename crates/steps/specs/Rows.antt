@@ -12,6 +12,7 @@ StepBounds s = Side s.bound
 abbrev pub pairing : (a b : Step) → Term
 pairing a b = term (a.value *ℤ b.value) a.bound b.bound
 
+-- each step of x paired with each step of y
 abbrev pub steps_terms : (xs ys : List Step) → List Term
 steps_terms xs ys = flat_map (λ a. map (pairing a) ys) xs
 

@@ -1,15 +1,12 @@
 // Steps along x and steps along y, of which a map is made.
 ghost use Rattle.std.specs.Prelude.{◌≡◌, ◌≤◌, ◌++◌, length, All, sum_by, MatchOption, MatchResult, unsigned_abs};
 ghost use Rattle.coats.specs.Terms.{sum_of, coat as coated, weight as weighed};
-ghost use Rattle.coats.specs.Refusals.{TooMany, FirstOut, OutOfBounds, map_told};
+ghost use Rattle.coats.specs.Refusals.{FirstOut, OutOfBounds, map_told};
 ghost use Rattle.steps.specs.Rows.{StepBounds, rise, steps_terms};
 
 use crate::row::Step;
-use coats::{Bounded, MapFault, check_count};
+use coats::{Bounded, MapFault};
 use nets::Place;
-
-// The most steps that a map may have along an axis.
-const MOST: usize = 16;
 
 // At most 16 steps along one axis.
 #[derive(Clone, Copy, Debug)]
@@ -19,15 +16,6 @@ pub(crate) struct Axis<'a> {
 }
 
 impl<'a> Axis<'a> {
-    // 7 for too many steps.
-    pub(crate) fn new(steps: &'a [Step]) -> Result<Axis<'a>, MapFault>
-        ensures { MatchResult result (λ a. a.steps.now ≡ steps.now)
-            (λ e. TooMany (length steps.now ≤ 16) (map_told e)) }
-    {
-        check_count(steps.len(), MOST)?;
-        Ok(Axis { steps })
-    }
-
     // What the steps add up to at a coordinate.
     pub(crate) fn height(self, at: u16) -> i32
         ensures { result ≡ sum_of (rise at) self.entry.steps.now }

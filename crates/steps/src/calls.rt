@@ -6,34 +6,35 @@ ghost use Rattle.steps.specs.Rows.{steps_terms};
 use crate::axes::{Axes, Axis};
 use crate::map::Steps;
 use crate::row::Step;
+use arrayvec::ArrayVec;
 use coats::{CoatMap, MapFault, check_weight};
 use nets::Place;
-use std::alloc::Global;
 
 impl Steps {
     // No steps.
-    pub fn new(heap: Global) -> Self
+    pub fn new() -> Self
         ensures { (result.x.items ≡ []) × (result.y.items ≡ []) }
     {
         Steps {
-            x: Vec::new(heap),
-            y: Vec::new(heap),
+            x: ArrayVec::new(),
+            y: ArrayVec::new(),
             weight: 0,
         }
     }
 
     // Replaces the steps by these, if they are a map.
-    pub fn replace(&mut self, heap: Global, x: &[Step], y: &[Step]) -> Result<(), MapFault>
+    #[tactic(auto, using(crate::proofs::Pairings::steps_sides))]
+    pub fn replace(&mut self, x: &[Step], y: &[Step]) -> Result<(), MapFault>
         ensures { StepsReplaced x.now y.now self.old self.new result }
     {
+        let x = ArrayVec::try_from(x).map_err(|_| MapFault::Count)?;
+        let y = ArrayVec::try_from(y).map_err(|_| MapFault::Count)?;
         let axes = Axes {
-            x: Axis::new(x)?,
-            y: Axis::new(y)?,
+            x: Axis { steps: &x },
+            y: Axis { steps: &y },
         };
         axes.check_bounds()?;
         let weight = check_weight(axes.weigh())?;
-        let x = x.to_vec(heap)?;
-        let y = y.to_vec(heap)?;
         *self = Steps { x, y, weight };
         Ok(())
     }

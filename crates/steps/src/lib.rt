@@ -6,5 +6,5 @@ pub mod calls;
 pub mod map;
 pub mod row;
 
-pub use map::Steps;
+pub use map::{MOST_STEPS, Steps};
 pub use row::Step;
