@@ -8,8 +8,8 @@ use Rattle.maps.specs.declared.map.Map.{Map}
 use Rattle.maps.specs.Kinds.{kind_of as map_kind}
 use Rattle.plans.specs.declared.plan.Plan.{Plan}
 use Rattle.plans.specs.Plans.{kind_of as plan_kind}
-use Rattle.survey.specs.declared.gauge.Call.{Call}
-use Rattle.survey.specs.declared.gauge.Call.TheVariants.{Begin, MapPage}
+use Rattle.survey.specs.declared.call.Call.{Call}
+use Rattle.survey.specs.declared.call.Call.TheVariants.{Begin, MapPage}
 use Rattle.gauge.specs.declared.commands.Kinds.{Kinds}
 
 -- a page that a call hands over is of these kinds, below its layers

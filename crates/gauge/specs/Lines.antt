@@ -4,7 +4,7 @@ use Rattle.nets.specs.declared.faults.LevelFault.{LevelFault}
 use Rattle.nets.specs.declared.faults.LevelFault.TheVariants as of_level
 use Rattle.audit.specs.declared.faults.LoadFault.{LoadFault}
 use Rattle.audit.specs.declared.faults.LoadFault.TheVariants as of_load
-use Rattle.survey.specs.declared.gauge.Answer.{Answer}
+use Rattle.survey.specs.declared.call.Answer.{Answer}
 use Rattle.gauge.specs.declared.faults.Unreadable.{Unreadable}
 use Rattle.gauge.specs.declared.faults.Unreadable.TheVariants as of_line
 use Rattle.gauge.specs.declared.answers.Reply.{Reply}

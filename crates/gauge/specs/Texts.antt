@@ -1,11 +1,12 @@
 -- The texts that are printed.
-use Rattle.std.specs.Prelude.{ℕ, zero, suc, List, [], ◌∷◌, ◌++◌, codes, decimal}
+use Rattle.std.specs.Prelude.{ℕ, List, [], ◌∷◌, ◌++◌, codes, decimal}
 use Rattle.std.specs.Fmt.{signed_decimal}
+use Rattle.nets.specs.Refusals.{refused}
 use Rattle.audit.specs.Texts.{audit_text}
 use Rattle.coats.specs.declared.faults.MapFault.TheVariants as of_map
 use Rattle.jobs.specs.Refusals.{refusal_told}
 use Rattle.jobs.specs.Texts.{told_text}
-use Rattle.survey.specs.Life.{counted, reported, limited, begun, paged, abandoned, numbered}
+use Rattle.survey.specs.Life.{counted, reported, limited, begun, paged, committed, abandoned, refusal}
 use Rattle.survey.specs.Life.{Answer as Told}
 use Rattle.survey.specs.Gauges.{told}
 use Rattle.gauge.specs.declared.faults.Unreadable.{Unreadable}
@@ -31,7 +32,7 @@ fault_text of_line.PlanKind = codes "another kind of plan"
 fault_text of_line.MapKind = codes "another kind of map"
 fault_text of_line.Memory = codes "out of memory"
 
--- what a call's answer tells; an accepted commit has the number 0, and a refusal one over 0
+-- what a call's answer tells; each refusal has a value
 abbrev pub answer_text : Told → List ℕ
 answer_text (counted n) = codes "taken " ++ decimal n
 answer_text (reported m n s r) = codes "report level " ++ (decimal m ++ (codes " taken " ++ (decimal n ++ (codes " sum " ++ (signed_decimal s ++ (codes " radius " ++ decimal r))))))
@@ -39,9 +40,9 @@ answer_text limited = codes "limited"
 answer_text begun = codes "begun"
 answer_text paged = codes "paged"
 answer_text abandoned = codes "abandoned"
-answer_text (numbered zero _) = codes "committed"
-answer_text (numbered (suc n) (v ∷ _)) = codes "refused " ++ (decimal (suc n) ++ (codes " place " ++ decimal v))
-answer_text (numbered (suc n) []) = []
+answer_text committed = codes "committed"
+answer_text (refusal (refused n (v ∷ _))) = codes "refused " ++ (decimal n ++ (codes " place " ++ decimal v))
+answer_text (refusal _) = []
 
 -- what a line is answered
 abbrev pub text : Reply → List ℕ

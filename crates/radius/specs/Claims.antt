@@ -1,10 +1,11 @@
 -- What is proved of nets and maps.
-use Rattle.std.specs.Prelude.{ℕ, ◌+◌, ◌*◌, ◌^◌, ◌≤◌, List, take, count_by}
+use Rattle.std.specs.Prelude.{◌≡◌, ℕ, ◌+◌, ◌*◌, ◌^◌, ◌≤◌, List, take, All, count_by, ◌&&◌, ◌==◌}
 use Rattle.std.specs.List.Sorted.{IsPermutation}
-use Rattle.nets.specs.Places.{Place, IsNet}
+use Rattle.nets.specs.Places.{Place, OnPanel, IsNet}
 use Rattle.coats.specs.declared.term.Term.{Term}
-use Rattle.coats.specs.Terms.{Side, boxed, IsMap}
+use Rattle.coats.specs.Terms.{Side, boxed, integral, IsMap}
 use Rattle.radius.specs.Radius.{added, radius, Near, Agree}
+use Rattle.radius.specs.Panel.{panel}
 
 -- c places where a / 2^32 are due: off by e places at most
 pub record Off (e c a : ℕ) : Type 0 where
@@ -25,3 +26,12 @@ SumsAgree =
     (m n : ℕ) (ps : List Place) (ts : List Term) (m' n' : ℕ) (ps' : List Place) (ts' : List Term) →
     IsNet m ps → IsMap ts → IsNet m' ps' → IsMap ts' → IsPermutation ts ts' →
     Agree m m' (added ts (take n ps)) (added ts' (take n' ps')) (radius m n ts) (radius m' n' ts')
+
+-- the coat added over all places of the panel is the integral: J / 2^32 is the mean coat
+abbrev pub PanelAdds : Type 0
+PanelAdds = (ts : List Term) → IsMap ts → added ts panel ≡ integral ts
+
+-- the panel's list has each place of the panel once, and no other
+pub record PanelWhole : Type 0 where
+  pub inside : All OnPanel panel
+  pub once : (p : Place) → OnPanel p → count_by (λ q. q.0 == p.0 && q.1 == p.1) panel ≡ 1

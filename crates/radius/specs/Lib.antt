@@ -1,2 +1,3 @@
+pub mod Panel
 pub mod Radius
 pub mod Claims

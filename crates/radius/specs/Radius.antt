@@ -2,7 +2,8 @@
 use Rattle.std.specs.Prelude.{ℕ, ◌+◌, ◌-◌, ◌*◌, ◌^◌, ◌≤◌, List, ℤ, pos, ◌-ℤ◌, ◌*ℤ◌, unsigned_abs}
 use Rattle.nets.specs.Places.{Place}
 use Rattle.coats.specs.declared.term.Term.{Term}
-use Rattle.coats.specs.Terms.{sum_of, coat, weight, integral}
+use Rattle.coats.specs.Terms.{sum_of, coat, weight}
+use Rattle.radius.specs.Panel.{panel}
 
 -- the coat added over places
 abbrev pub added : List Term → List Place → ℤ
@@ -20,9 +21,10 @@ rest_cost m n ts = (2 ^ m - n) * weight ts
 abbrev pub radius : (m n : ℕ) → List Term → ℕ
 radius m n ts = depth_cost m ts + rest_cost m n ts
 
--- the sum s over places of a net of level m is within r of the truth, 2^m times the mean coat
+-- the sum s over places of a net of level m is within r of the truth, 2^m times the mean coat:
+-- 2^m / 2^32 of the coat added over all places of the panel
 abbrev pub Near : (m : ℕ) → List Term → (s : ℤ) (r : ℕ) → Type 0
-Near m ts s r = unsigned_abs (s *ℤ pos (2 ^ 32) -ℤ pos (2 ^ m) *ℤ integral ts) ≤ r * 2 ^ 32
+Near m ts s r = unsigned_abs (s *ℤ pos (2 ^ 32) -ℤ pos (2 ^ m) *ℤ added ts panel) ≤ r * 2 ^ 32
 
 -- two sums s and s', over places of nets of levels m and m', agree within their radii
 abbrev pub Agree : (m m' : ℕ) (s s' : ℤ) (r r' : ℕ) → Type 0

@@ -2,7 +2,7 @@
 // when they are run; their contracts are the theorems.
 #![tactic(auto)]
 
-ghost use Rattle.radius.specs.Claims.{BoxShares, SumsNear, SumsAgree};
+ghost use Rattle.radius.specs.Claims.{BoxShares, PanelAdds, PanelWhole, SumsNear, SumsAgree};
 
 // Each box of a net holds its share of the places, but for one for each depth.
 pub fn show_boxes()
@@ -17,4 +17,14 @@ pub fn show_sums()
 // Two sums agree within their radii.
 pub fn show_agreement()
     ensures { SumsAgree }
+{}
+
+// The coat added over every place of the panel is the integral.
+pub fn show_mean()
+    ensures { PanelAdds }
+{}
+
+// The panel's list has every place of the panel once.
+pub fn show_panel()
+    ensures { PanelWhole }
 {}

@@ -1,4 +1,3 @@
 pub mod Lengths
-pub mod Wholes
 pub mod Layered
 pub mod Told

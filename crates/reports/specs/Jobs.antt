@@ -20,7 +20,7 @@ layered l ps = map (λ p. if l.swap then swapped p else p) (map (scrambled_place
 
 -- a recipe by its plan, with the layers on it, and the terms of its map
 abbrev pub meaning : Recipe → survey.Recipe
-meaning r = record { plan = record { level = level_of r.plan; places = layered r.layers (places_of r.plan) }; map = terms_of r.map }
+meaning r = record { plan = record { level = level_of r.plan; places = layered r.layers (places_of r.plan) }; map = record { terms = terms_of r.map } }
 
 -- a job that is read is measured, and any other is refused by the first check that it does not pass
 abbrev pub Says : (job : List ℕ) → Outcome → Type 0

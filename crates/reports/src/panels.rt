@@ -1,5 +1,5 @@
 // The measuring of a whole panel.
-ghost use Rattle.survey.specs.Calls.{plan_of};
+ghost use Rattle.survey.specs.Recipes.{recipe_of};
 ghost use Rattle.reports.specs.Measures.{Measures};
 
 use crate::measured::Measured;
@@ -9,9 +9,8 @@ use nets::{Level, Net};
 use survey::Survey;
 
 // Opens a survey, takes every place, and reports; and audits the plan's places.
-#[tactic(auto, using(crate::proofs::Wholes::wholes))]
 pub fn measure<P: Net + Drop, M: CoatMap + Drop>(plan: P, map: M) -> Measured
-    ensures { Measures (record { plan = plan_of P.Net plan; map = M.terms map }) result }
+    ensures { Measures (recipe_of P.Net M.CoatMap plan map) result }
 {
     let points = Level::try_from(plan.level()).unwrap().places();
     let audit = audit_plan(&plan).unwrap();

@@ -1,5 +1,5 @@
-pub mod Nears
+pub mod Coats
+pub mod Steps
+pub mod Strikes
 pub mod Promises
 pub mod Runs
-pub mod Strikes
-pub mod Takes

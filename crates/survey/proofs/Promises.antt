@@ -1,12 +1,13 @@
 -- Every life keeps the promise.
-use Rattle.std.proofs.Common.{◌≡◌, [], ◌∷◌, ◌++◌, refl, subst}
+use Rattle.std.proofs.Common.{◌≡◌, List, [], ◌∷◌, ◌++◌, Option, refl, sym, ap, ◌∙◌, subst}
 use Rattle.std.specs.List.Sorted.{IsPermutation}
 use Rattle.radius.specs.Radius.{Near, Agree}
 use Rattle.radius.proofs.Sums.{sums_agree}
-use Rattle.survey.specs.Recipes.{Recipe}
-use Rattle.survey.specs.Life.{reported, History, held, taken, on_report, Lived}
-use Rattle.survey.specs.Promise.{Reported, terms_at, calls, Promise}
-use Rattle.survey.proofs.Nears.{held_is, told, told_near}
+use Rattle.survey.specs.Recipes.{Recipe, IsRecipe}
+use Rattle.survey.specs.Life.{Call, Answer, report, reported, answer, History, State, opening, after, state, Steps, Lived}
+use Rattle.survey.specs.Runs.{Runs, opened, answered, barred}
+use Rattle.survey.specs.Promise.{Reported, terms_at, calls, answers, Kept, ComesTo, Continues, Lives}
+use Rattle.survey.proofs.Steps.{step_from, held_is, told, told_near}
 use Rattle.survey.proofs.Strikes.{strike}
 
 module _ (o : Recipe) where
@@ -14,37 +15,45 @@ module _ (o : Recipe) where
   lived_from [] e h = h
   lived_from (x ∷ l) e h = lived_from l e h.0
 
-  report_lived : (h : History) → Lived o h → (x : Reported o h) → Lived o x.earlier × (reported x.m x.n x.s x.r ≡ on_report (held o x.earlier) (taken x.earlier))
-  report_lived h l x = let at = lived_from x.later _ (subst (Lived o) x.at l) in (at.0, at.2)
+  report_lived : (h : History) → Lived o h → (x : Reported o h) → Lived o x.earlier × (reported x.m x.n x.s x.r ≡ answer (state o x.earlier) report)
+  report_lived h l x = let at = lived_from x.later _ (subst (Lived o) x.at l) in (at.0, at.1.answers)
 
-  -- the calls of a life say its answers
-  pub determined : (g h : History) → Lived o g → Lived o h → calls g ≡ calls h → g ≡ h
-  determined [] [] lg lh e = refl
-  determined [] (y ∷ h) lg lh e = absurd cc
-  determined (x ∷ g) [] lg lh e = absurd cc
-  determined ((c, a) ∷ g) ((d, b) ∷ h) lg lh e =
-      let same : c ≡ d = cc in
-      let before : g ≡ h = determined g h lg.0 lh.0 cc in
-      cc
+  -- a life is what its calls run to
+  run_of : (h : History) → Lived o h → Runs o (calls h) (answers h) h
+  run_of [] l = opened
+  run_of ((c, a) ∷ h) (l, step) = answered _ _ h c a (run_of h l) step
+
+  -- and they run to nothing else
+  again : (h : History) → Lived o h → (rs : List (Option Answer)) (g : History) → Runs o (calls h) rs g → (g ≡ h) × (rs ≡ answers h)
+  again [] l _ _ opened = (refl, refl)
+  again ((c, b) ∷ h) (l, step) _ _ (answered _ rs g _ a r step') =
+      let x = again h l rs g r in
+      let life = x.0 in
+      let told = x.1 in
+      let before = step.answers in
+      let now = step'.answers in
+      (cc, cc)
+  again ((c, b) ∷ h) (l, step) _ _ (barred _ rs g _ r bars) = let life = (again h l rs g r).0 in absurd (bars (rw life step.allowed))
 
 pub reports_near : (o : Recipe) (h : History) → Lived o h → (x : Reported o h) → Near x.m (terms_at x) x.s x.r
 reports_near o h l x =
     let at = report_lived o h l x in
-    told_near (held o x.earlier) (taken x.earlier) (held_is o x.earlier at.0) x.m x.n x.s x.r at.1
+    told_near (state o x.earlier) (held_is o x.earlier at.0) x.m x.n x.s x.r at.1
 
-pub reports_agree : (o : Recipe) (h : History) → Lived o h → (o' : Recipe) (h' : History) → Lived o' h' → (x : Reported o h) (x' : Reported o' h') → IsPermutation (terms_at x) (terms_at x') → Agree x.m x'.m x.s x'.s x.r x'.r
+pub reports_agree : (o : Recipe) (h : History) → Lived o h → (o' : Recipe) (h' : History) → Lived o' h' → (x : Reported o h) (x' : Reported o' h') →
+    IsPermutation (terms_at x) (terms_at x') → Agree x.m x'.m x.s x'.s x.r x'.r
 reports_agree o h l o' h' l' x x' same =
     let at = report_lived o h l x in
     let at' = report_lived o' h' l' x' in
-    let q = held o x.earlier in
-    let q' = held o' x'.earlier in
+    let s = state o x.earlier in
+    let s' = state o' x'.earlier in
     let is = held_is o x.earlier at.0 in
     let is' = held_is o' x'.earlier at'.0 in
-    let e = told q (taken x.earlier) x.m x.n x.s x.r at.1 in
-    let e' = told q' (taken x'.earlier) x'.m x'.n x'.s x'.r at'.1 in
-    rw (e.0, e.1, e.2, e'.0, e'.1, e'.2) (sums_agree q.plan.level (taken x.earlier) q.plan.places q.map q'.plan.level (taken x'.earlier) q'.plan.places q'.map is.plan is.map is'.plan is'.map same)
+    let e = told s x.m x.n x.s x.r at.1 in
+    let e' = told s' x'.m x'.n x'.s x'.r at'.1 in
+    rw (e.0, e.1, e.2, e'.0, e'.1, e'.2) (sums_agree _ s.taken s.held.plan.places s.held.map.terms _ s'.taken s'.held.plan.places s'.held.map.terms is.plan is.map is'.plan is'.map same)
 
-pub promise : (o : Recipe) (h : History) → Lived o h → Promise o h
+pub promise : Kept
 promise o h l =
     let g = strike o h l in
     record {
@@ -53,6 +62,22 @@ promise o h l =
       rest = g.0;
       strikes = g.1;
       rest_lived = g.2;
-      same = λ k lk e. determined o k g.0 lk g.2 e;
+      same = λ k lk e. (again o g.0 g.2 (answers k) k (subst (λ (cs : List Call). Runs o cs (answers k) k) e (run_of o k lk))).0;
+      again = again o g.0 g.2;
       agrees = λ o' h' l'. reports_agree o h l o' h' l';
     }
+
+pub begins : (o : Recipe) → IsRecipe o → ComesTo o [] (opening o)
+begins o is = record { promise = promise o [] is; here = refl }
+
+pub continues : (c : Call) (a : Answer) (from to : State) → Steps c a from to → Continues c a from to
+continues c a from to step =
+    record {
+      life = λ o h at. record {
+        promise = promise o _ (at.promise.lived, step_from c a from (state o h) at.here step.allowed step.answers);
+        here = ap (after c a) at.here ∙ sym step.leads;
+      };
+    }
+
+pub lives : Lives
+lives = record { begins = begins; continues = continues }

@@ -1,75 +1,70 @@
 -- What a call as a value does to a gauge, and to the lives that have come to it.
-use Rattle.std.specs.Prelude.{◌≡◌, Bool, true, false, MatchOption}
+use Rattle.std.specs.Prelude.{◌≡◌, MatchOption}
 use Rattle.nets.specs.declared.net.Net.{Ghosts as Nets}
 use Rattle.coats.specs.declared.coat_map.CoatMap.{Ghosts as Maps}
-use Rattle.survey.specs.Recipes.{Recipe}
+use Rattle.survey.specs.Recipes.{plan_of, map_of}
 use Rattle.survey.specs.Life as life
-use Rattle.survey.specs.Life.{History, stage, Allowed}
-use Rattle.survey.specs.Calls.{plan_of, Takes, Reports, Limits, Commits}
-use Rattle.survey.specs.Lives.{Position, Carries, AtSurvey, AtHalf, AtFull}
-use Rattle.survey.specs.Refusals.{take_told, limit_told, commit_told, report_told}
+use Rattle.survey.specs.Life.{State, Allowed}
+use Rattle.survey.specs.Promise.{Continues}
+use Rattle.survey.specs.Refusals.{take_answer, limit_answer, commit_answer}
+use Rattle.survey.specs.Reports.{report_answer}
+use Rattle.survey.specs.Surveys.{survey_state, Takes, Limits, Reports}
+use Rattle.survey.specs.Changes.{half_state, full_state, Begins, Pages, Commits, Abandons}
+use Rattle.survey.specs.declared.call.Call.{Call}
+use Rattle.survey.specs.declared.call.Call.TheVariants as call
+use Rattle.survey.specs.declared.call.Answer.{Answer}
+use Rattle.survey.specs.declared.call.Answer.TheVariants as answer
 use Rattle.survey.specs.declared.gauge.Gauge.{Gauge}
 use Rattle.survey.specs.declared.gauge.Gauge.TheVariants as at
-use Rattle.survey.specs.declared.gauge.Call.{Call}
-use Rattle.survey.specs.declared.gauge.Call.TheVariants as call
-use Rattle.survey.specs.declared.gauge.Answer.{Answer}
-use Rattle.survey.specs.declared.gauge.Answer.TheVariants as answer
 use Rattle.survey.specs.declared.gauge.After.{After}
 
--- what an answer tells
+-- what an answer is in a life
 abbrev pub told : Answer → life.Answer
-told (answer.Taken r) = take_told r
-told (answer.Reported r) = report_told r
-told (answer.Limited r) = limit_told r
+told (answer.Taken r) = take_answer r
+told (answer.Reported r) = report_answer r
+told (answer.Limited r) = limit_answer r
 told answer.Begun = life.begun
 told answer.Paged = life.paged
-told (answer.Committed r) = commit_told r
+told (answer.Committed r) = commit_answer r
 told answer.Abandoned = life.abandoned
 
--- the calls that each state allows
-abbrev pub allows : {P M : Type 0} → Gauge P M → Call P M → Bool
-allows (at.Survey _) (call.Take _) = true
-allows (at.Survey _) call.Report = true
-allows (at.Survey _) (call.Limit _) = true
-allows (at.Survey _) (call.Begin _) = true
-allows (at.Half _) (call.MapPage _) = true
-allows (at.Half _) call.Abandon = true
-allows (at.Full _) call.Commit = true
-allows (at.Full _) call.Abandon = true
-allows _ _ = false
+-- what a call is in a life
+abbrev pub asked : {P M : Type 0} → Nets P → Maps M → Call P M → life.Call
+asked nets maps (call.Take k) = life.take k
+asked nets maps call.Report = life.report
+asked nets maps (call.Limit l) = life.set_limit l
+asked nets maps (call.Begin p) = life.begin (plan_of nets p)
+asked nets maps (call.MapPage m) = life.map_page (map_of maps m)
+asked nets maps call.Commit = life.commit
+asked nets maps call.Abandon = life.abandon
 
-module _ {P M : Type 0} (nets : Nets P) (maps : Maps M) where
-  -- a call by what it means
-  abbrev pub asked : Call P M → life.Call
-  asked (call.Take k) = life.take k
-  asked call.Report = life.report
-  asked (call.Limit l) = life.set_limit l
-  asked (call.Begin p) = life.begin (plan_of nets p)
-  asked (call.MapPage m) = life.map_page (maps.terms m)
-  asked call.Commit = life.commit
-  asked call.Abandon = life.abandon
+module _ {P M : Type 0} {nets : Nets P} {maps : Maps M} where
+  -- the state that a life has come to whose gauge this is
+  abbrev pub gauge_state : Gauge P M nets maps → State
+  gauge_state (at.Survey s) = survey_state s
+  gauge_state (at.Half c) = half_state c
+  gauge_state (at.Full c) = full_state c
 
-  -- an allowed call does what the call of the state does
-  abbrev pub Does : Gauge P M → Call P M → Gauge P M → Answer → Type 0
-  Does (at.Survey old) (call.Take k) (at.Survey new) (answer.Taken r) = Takes nets maps k old new r
-  Does (at.Survey old) call.Report (at.Survey new) (answer.Reported r) = (new ≡ old) × Reports nets maps old r
-  Does (at.Survey old) (call.Limit l) (at.Survey new) (answer.Limited r) = Limits nets maps l old new r
-  Does (at.Survey s) (call.Begin p) (at.Half c) answer.Begun = (c.old ≡ s) × (c.plan ≡ p)
-  Does (at.Half c) (call.MapPage m) (at.Full d) answer.Paged = (d.old ≡ c.old) × (d.plan ≡ c.plan) × (d.map ≡ m)
-  Does (at.Half c) call.Abandon (at.Survey s) answer.Abandoned = s ≡ c.old
-  Does (at.Full c) call.Commit (at.Survey s) (answer.Committed r) = Commits nets maps c (record { survey = s; outcome = r })
-  Does (at.Full c) call.Abandon (at.Survey s) answer.Abandoned = s ≡ c.old
+  -- the call is barred where the gauge is
+  abbrev pub Bars : Gauge P M nets maps → Call P M → Type 0
+  Bars g c = Allowed (gauge_state g).stage (asked nets maps c) → ⊥
+
+  -- an allowed call does what the call of the survey or the change does
+  abbrev pub Does : Gauge P M nets maps → Call P M → Gauge P M nets maps → Answer → Type 0
+  Does (at.Survey old) (call.Take k) (at.Survey new) (answer.Taken r) = Takes k old new r
+  Does (at.Survey old) call.Report (at.Survey new) (answer.Reported r) = (new ≡ old) × Reports old r
+  Does (at.Survey old) (call.Limit l) (at.Survey new) (answer.Limited r) = Limits l old new r
+  Does (at.Survey s) (call.Begin p) (at.Half c) answer.Begun = Begins p s c
+  Does (at.Half c) (call.MapPage m) (at.Full d) answer.Paged = Pages m c d
+  Does (at.Half c) call.Abandon (at.Survey s) answer.Abandoned = Abandons (half_state c) c.old s
+  Does (at.Full c) call.Commit (at.Survey s) (answer.Committed r) = Commits c (record { survey = s; outcome = r })
+  Does (at.Full c) call.Abandon (at.Survey s) answer.Abandoned = Abandons (full_state c) c.old s
   Does _ _ _ _ = ⊥
 
   -- any other does nothing, and has no answer
-  abbrev pub Asks : Gauge P M → Call P M → After P M → Type 0
-  Asks g c r = MatchOption r.answer ((r.gauge ≡ g) × (allows g c ≡ false)) (λ a. Does g c r.gauge a)
+  abbrev pub Asks : Gauge P M nets maps → Call P M → After P M nets maps → Type 0
+  Asks g c r = MatchOption r.answer ((r.gauge ≡ g) × Bars g c) (λ a. Does g c r.gauge a)
 
-  abbrev pub At : Gauge P M → Position
-  At (at.Survey s) = AtSurvey nets maps s
-  At (at.Half c) = AtHalf nets maps c
-  At (at.Full c) = AtFull nets maps c
-
-  -- an allowed call carries on every life; any other is allowed in none
-  abbrev pub AskLives : Gauge P M → Call P M → After P M → Type 0
-  AskLives g c r = MatchOption r.answer ((o : Recipe) (h : History) → At g o h → Allowed (stage h) (asked c) → ⊥) (λ a. Carries (asked c) (told a) (At g) (At r.gauge))
+  -- an allowed call carries on each life that has come to the gauge, with the promise whole; any other is allowed in none
+  abbrev pub AskLives : Gauge P M nets maps → Call P M → After P M nets maps → Type 0
+  AskLives g c r = MatchOption r.answer (Bars g c) (λ a. Continues (asked nets maps c) (told a) (gauge_state g) (gauge_state r.gauge))

@@ -1,9 +1,11 @@
 pub mod Recipes
 pub mod Life
-pub mod Refusals
-pub mod Calls
-pub mod Lives
 pub mod Strikes
+pub mod Runs
 pub mod Promise
+pub mod Refusals
+pub mod Reports
+pub mod Surveys
+pub mod Changes
 pub mod Gauges
-pub mod Replays
+pub mod Logs

@@ -1,16 +1,15 @@
--- A survey's life: the calls that were made of it with what each answered, the newest first.
-use Rattle.std.specs.Prelude.{◌≡◌, ℕ, zero, suc, ◌+◌, Bool, true, false, if◌then◌else◌, List, [], ◌∷◌, ℤ, ◌==◌, nat_lt}
-use Rattle.coats.specs.declared.term.Term.{Term}
+-- A survey's life: the calls that were made of it with what each answered, the newest first, and what it has come to.
+use Rattle.std.specs.Prelude.{◌≡◌, ℕ, ◌+◌, Bool, true, false, if◌then◌else◌, List, [], ◌∷◌, ℤ, ◌==◌, nat_lt}
+use Rattle.nets.specs.Refusals.{Told, refused}
 use Rattle.coats.specs.Terms.{IsMap}
-use Rattle.radius.specs.Radius.{depth_cost}
-use Rattle.survey.specs.Recipes.{Plan, Recipe, IsPlan, IsRecipe, left, sum, radius}
+use Rattle.survey.specs.Recipes.{Plan, Map, Recipe, IsPlan, IsRecipe, left, coat_sum, cost, radius}
 
 pub data Call : Type 0 where
   take : (k : ℕ) → Call
   report : Call
   set_limit : (l : ℕ) → Call
   begin : Plan → Call
-  map_page : List Term → Call
+  map_page : Map → Call
   commit : Call
   abandon : Call
 
@@ -22,20 +21,13 @@ pub data Answer : Type 0 where
   limited : Answer
   begun : Answer
   paged : Answer
+  committed : Answer
   abandoned : Answer
-  -- a number with its values: 0 for an accepted commit, any other for a refusal
-  numbered : (number : ℕ) (values : List ℕ) → Answer
+  refusal : Told → Answer
 
--- only a refusal has a number over 0
 abbrev pub accepts : Answer → Bool
-accepts (counted n) = true
-accepts (reported m n s r) = true
-accepts limited = true
-accepts begun = true
-accepts paged = true
-accepts abandoned = true
-accepts (numbered zero values) = true
-accepts (numbered (suc n) values) = false
+accepts (refusal t) = false
+accepts _ = true
 
 abbrev pub History : Type 0
 History = List (Call × Answer)
@@ -44,22 +36,25 @@ History = List (Call × Answer)
 pub data Stage : Type 0 where
   survey : Stage
   half : Plan → Stage
-  full : Plan → List Term → Stage
+  full : Plan → Map → Stage
 
-abbrev pub with_map : List Term → Stage → Stage
+-- what a history has come to
+pub record State : Type 0 where
+  pub stage : Stage
+  -- the recipe of opening, or of the last accepted commit
+  pub held : Recipe
+  -- L: that of opening, or of the last accepted limit
+  pub limit : ℕ
+  -- n: the total of k over the takes accepted since the held recipe came in
+  pub taken : ℕ
+
+abbrev pub opening : Recipe → State
+opening o = record { stage = survey; held = o; limit = 212992; taken = 0 }
+
+abbrev pub with_map : Map → Stage → Stage
 with_map t survey = survey
 with_map t (half p) = full p t
 with_map t (full p u) = full p t
-
-abbrev pub stage : History → Stage
-stage [] = survey
-stage ((take k, a) ∷ h) = stage h
-stage ((report, a) ∷ h) = stage h
-stage ((set_limit l, a) ∷ h) = stage h
-stage ((begin p, a) ∷ h) = half p
-stage ((map_page t, a) ∷ h) = with_map t (stage h)
-stage ((commit, a) ∷ h) = survey
-stage ((abandon, a) ∷ h) = survey
 
 -- the recipe that a commit would bring in, where there are pages for one
 abbrev pub offered : Recipe → Stage → Recipe
@@ -67,73 +62,62 @@ offered old survey = old
 offered old (half p) = old
 offered old (full p t) = record { plan = p; map = t }
 
--- the recipe of opening, or of the last commit that answered 0
-abbrev pub held : Recipe → History → Recipe
-held o [] = o
-held o ((take k, a) ∷ h) = held o h
-held o ((report, a) ∷ h) = held o h
-held o ((set_limit l, a) ∷ h) = held o h
-held o ((begin p, a) ∷ h) = held o h
-held o ((map_page t, a) ∷ h) = held o h
-held o ((commit, a) ∷ h) = if accepts a then offered (held o h) (stage h) else held o h
-held o ((abandon, a) ∷ h) = held o h
+-- what an accepted call makes of it
+abbrev pub accepted : Call → State → State
+accepted (take k) s = record s { taken = s.taken + k }
+accepted (set_limit l) s = record s { limit = l }
+accepted (begin p) s = record s { stage = half p }
+accepted (map_page t) s = record s { stage = with_map t s.stage }
+accepted commit s = record s { stage = survey; held = offered s.held s.stage; taken = 0 }
+accepted abandon s = record s { stage = survey }
+accepted report s = s
 
--- L: 212992, or that of the last limit that was accepted
-abbrev pub limit : History → ℕ
-limit [] = 212992
-limit ((take k, a) ∷ h) = limit h
-limit ((report, a) ∷ h) = limit h
-limit ((set_limit l, a) ∷ h) = if accepts a then l else limit h
-limit ((begin p, a) ∷ h) = limit h
-limit ((map_page t, a) ∷ h) = limit h
-limit ((commit, a) ∷ h) = limit h
-limit ((abandon, a) ∷ h) = limit h
+-- a refused call leaves no change under way, and all else as it was
+abbrev pub after : Call → Answer → State → State
+after c a s = if accepts a then accepted c s else record s { stage = survey }
 
--- n: the total of k over the takes accepted since the held recipe came in
-abbrev pub taken : History → ℕ
-taken [] = 0
-taken ((take k, a) ∷ h) = if accepts a then taken h + k else taken h
-taken ((report, a) ∷ h) = taken h
-taken ((set_limit l, a) ∷ h) = taken h
-taken ((begin p, a) ∷ h) = taken h
-taken ((map_page t, a) ∷ h) = taken h
-taken ((commit, a) ∷ h) = if accepts a then 0 else taken h
-taken ((abandon, a) ∷ h) = taken h
+abbrev pub state : Recipe → History → State
+state o [] = opening o
+state o ((c, a) ∷ h) = after c a (state o h)
 
--- the rules: what a take of k answers after n places, a report, a limit l, and a commit under the limit l
+-- the rules: what a take of k answers after n places, a limit l, and a commit under the limit l
 abbrev pub on_take : Recipe → (n k : ℕ) → Answer
-on_take q n k = if k == 0 then numbered 21 (0 ∷ []) else if nat_lt (left q.plan n) k then numbered 22 (left q.plan n ∷ []) else counted (n + k)
-
-abbrev pub on_report : Recipe → (n : ℕ) → Answer
-on_report q n = reported q.plan.level n (sum q n) (radius q n)
+on_take q n k =
+    if k == 0 then refusal (refused 21 (0 ∷ []))
+    else if nat_lt (left q.plan n) k then refusal (refused 22 (left q.plan n ∷ []))
+    else counted (n + k)
 
 abbrev pub on_limit : Recipe → (l : ℕ) → Answer
-on_limit q l = if nat_lt l (depth_cost q.plan.level q.map) then numbered 23 (depth_cost q.plan.level q.map ∷ []) else limited
+on_limit q l = if nat_lt l (cost q) then refusal (refused 23 (cost q ∷ [])) else limited
 
 abbrev pub on_commit : Recipe → (l : ℕ) → Answer
-on_commit q l = if nat_lt l (depth_cost q.plan.level q.map) then numbered 24 (depth_cost q.plan.level q.map ∷ []) else numbered 0 []
+on_commit q l = if nat_lt l (cost q) then refusal (refused 24 (cost q ∷ [])) else committed
 
--- what a call answers after a history
-abbrev pub answer : Recipe → History → Call → Answer
-answer o h (take k) = on_take (held o h) (taken h) k
-answer o h report = on_report (held o h) (taken h)
-answer o h (set_limit l) = on_limit (held o h) l
-answer o h (begin p) = begun
-answer o h (map_page t) = paged
-answer o h commit = on_commit (offered (held o h) (stage h)) (limit h)
-answer o h abandon = abandoned
+-- what a call answers
+abbrev pub answer : State → Call → Answer
+answer s (take k) = on_take s.held s.taken k
+answer s report = reported s.held.plan.level s.taken (coat_sum s.held s.taken) (radius s.held s.taken)
+answer s (set_limit l) = on_limit s.held l
+answer s (begin p) = begun
+answer s (map_page t) = paged
+answer s commit = on_commit (offered s.held s.stage) s.limit
+answer s abandon = abandoned
 
 -- where a call is allowed; a page is a plan or a map
 abbrev pub Allowed : Stage → Call → Type 0
-Allowed s (take k) = s ≡ survey
-Allowed s report = s ≡ survey
-Allowed s (set_limit l) = s ≡ survey
 Allowed s (begin p) = (s ≡ survey) × IsPlan p
-Allowed s (map_page t) = ((p : Plan) × (s ≡ half p)) × IsMap t
-Allowed s commit = (p : Plan) × (t : List Term) × (s ≡ full p t)
+Allowed s (map_page t) = ((p : Plan) × (s ≡ half p)) × IsMap t.terms
+Allowed s commit = (p : Plan) × (t : Map) × (s ≡ full p t)
 Allowed s abandon = s ≡ survey → ⊥
+Allowed s _ = s ≡ survey
 
--- a life from the opening on the recipe o: each call was allowed, and answered by the rules
+-- a call is allowed, is answered by the rules, and leads from one state to another
+pub record Steps (c : Call) (a : Answer) (from to : State) : Type 0 where
+  pub allowed : Allowed from.stage c
+  pub answers : a ≡ answer from c
+  pub leads : to ≡ after c a from
+
+-- a life from the opening on the recipe o: one call after another
 abbrev pub Lived : (o : Recipe) → History → Type 0
 Lived o [] = IsRecipe o
-Lived o ((c, a) ∷ h) = Lived o h × Allowed (stage h) c × (a ≡ answer o h c)
+Lived o ((c, a) ∷ h) = Lived o h × Steps c a (state o h) (state o ((c, a) ∷ h))

@@ -1,27 +1,38 @@
--- What the answers of a survey's calls tell: a refusal's number and values.
+-- The numbers and values that the calls of a survey tell, and their answers in a life.
 use Rattle.std.specs.Prelude.{ℕ, [], ◌∷◌, Ok, Err, Result}
-use Rattle.survey.specs.Life.{Answer, counted, reported, limited, numbered}
-use Rattle.survey.specs.declared.faults.CommitFault.{CommitFault}
+use Rattle.nets.specs.Refusals.{Told, refused}
+use Rattle.survey.specs.Life.{Answer, counted, limited, committed, refusal}
 use Rattle.survey.specs.declared.faults.TakeFault.{TakeFault}
-use Rattle.survey.specs.declared.faults.TakeFault.TheVariants as of_take
+use Rattle.survey.specs.declared.faults.TakeFault.TheVariants.{Nothing, TooMany}
 use Rattle.survey.specs.declared.faults.LimitFault.{LimitFault}
-use Rattle.survey.specs.declared.states.Report.{Report}
+use Rattle.survey.specs.declared.faults.CommitFault.{CommitFault}
 
 -- 21: nothing is to be taken; 0. 22: more than is left; what is left
-abbrev pub take_told : Result ℕ TakeFault → Answer
-take_told (Ok n) = counted n
-take_told (Err of_take.Nothing) = numbered 21 (0 ∷ [])
-take_told (Err (of_take.TooMany left)) = numbered 22 (left ∷ [])
+abbrev pub take_told : TakeFault → Told
+take_told Nothing = refused 21 (0 ∷ [])
+take_told (TooMany left) = refused 22 (left ∷ [])
 
 -- 23: the depths cost more than the limit; what they cost
-abbrev pub limit_told : {X : Type 0} → Result X LimitFault → Answer
-limit_told (Ok _) = limited
-limit_told (Err e) = numbered 23 (e.0 ∷ [])
+abbrev pub limit_told : LimitFault → Told
+limit_told e = refused 23 (e.0 ∷ [])
 
-abbrev pub report_told : Report → Answer
-report_told r = reported r.level r.count r.sum r.radius
+-- 24: the depths of the new recipe cost more than the limit; what they cost
+abbrev pub commit_told : CommitFault → Told
+commit_told e = refused 24 (e.0 ∷ [])
 
--- 0: the new recipe holds. 24: its depths cost more than the limit; what they cost
-abbrev pub commit_told : {X : Type 0} → Result X CommitFault → Answer
-commit_told (Ok _) = numbered 0 []
-commit_told (Err e) = numbered 24 (e.0 ∷ [])
+-- the number that a commit answers: 0 if the new recipe holds
+abbrev pub commit_number : {X : Type 0} → Result X CommitFault → ℕ
+commit_number (Ok _) = 0
+commit_number (Err _) = 24
+
+abbrev pub take_answer : Result ℕ TakeFault → Answer
+take_answer (Ok n) = counted n
+take_answer (Err e) = refusal (take_told e)
+
+abbrev pub limit_answer : {X : Type 0} → Result X LimitFault → Answer
+limit_answer (Ok _) = limited
+limit_answer (Err e) = refusal (limit_told e)
+
+abbrev pub commit_answer : {X : Type 0} → Result X CommitFault → Answer
+commit_answer (Ok _) = committed
+commit_answer (Err e) = refusal (commit_told e)

@@ -1,40 +1,81 @@
 // A survey whose calls come as values, one by one, at run time.
-use crate::faults::{CommitFault, LimitFault, TakeFault};
-use crate::states::{FullChange, HalfChange, Report, Survey};
+ghost use Rattle.std.specs.Prelude.{◌≡◌, Some};
 
-// A survey, or the change that is made of it.
+use crate::call::{Answer, Call};
+use crate::full_change::{Committed, FullChange};
+use crate::half_change::HalfChange;
+use crate::survey::Survey;
+use coats::CoatMap;
+use nets::Net;
+
+/// A survey, or the change that is made of it.
 #[derive(Debug, Drop)]
-pub enum Gauge<P, M> {
+pub enum Gauge<P: Net, M: CoatMap> {
     Survey(Survey<P, M>),
     Half(HalfChange<P, M>),
     Full(FullChange<P, M>),
 }
 
+/// The gauge after a call, and the answer, if the call was allowed.
 #[derive(Debug, Drop)]
-pub enum Call<P, M> {
-    Take(u32),
-    Report,
-    Limit(u64),
-    Begin(P),
-    MapPage(M),
-    Commit,
-    Abandon,
-}
-
-#[derive(Clone, Copy, Debug, PartialEq, Eq)]
-pub enum Answer {
-    Taken(Result<u32, TakeFault>),
-    Reported(Report),
-    Limited(Result<(), LimitFault>),
-    Begun,
-    Paged,
-    Committed(Result<(), CommitFault>),
-    Abandoned,
-}
-
-// The gauge after a call, and the answer, if the call was allowed.
-#[derive(Debug, Drop)]
-pub struct After<P, M> {
+pub struct After<P: Net, M: CoatMap> {
     pub gauge: Gauge<P, M>,
     pub answer: Option<Answer>,
+}
+
+impl<P: Net + Drop, M: CoatMap + Drop> Gauge<P, M> {
+    ghost use Rattle.survey.specs.Gauges.{Asks, AskLives};
+
+    /// Makes a call, if the state allows it. Any other changes nothing, and has no answer.
+    #[tactic(auto, using(crate::proofs::Promises::continues))]
+    pub fn ask(self, call: Call<P, M>) -> After<P, M>
+        ensures rule { Asks self call result }
+        ensures life { AskLives self call result }
+    {
+        match (self, call) {
+            (Gauge::Survey(mut survey), Call::Take(k)) => {
+                let answer = survey.take(k);
+                After::answered(Gauge::Survey(survey), Answer::Taken(answer))
+            }
+            (Gauge::Survey(survey), Call::Report) => {
+                let report = survey.report();
+                After::answered(Gauge::Survey(survey), Answer::Reported(report))
+            }
+            (Gauge::Survey(mut survey), Call::Limit(limit)) => {
+                let answer = survey.set_limit(limit);
+                After::answered(Gauge::Survey(survey), Answer::Limited(answer))
+            }
+            (Gauge::Survey(survey), Call::Begin(plan)) => {
+                After::answered(Gauge::Half(survey.begin(plan)), Answer::Begun)
+            }
+            (Gauge::Half(half), Call::MapPage(map)) => {
+                After::answered(Gauge::Full(half.map_page(map)), Answer::Paged)
+            }
+            (Gauge::Half(half), Call::Abandon) => {
+                After::answered(Gauge::Survey(half.abandon()), Answer::Abandoned)
+            }
+            (Gauge::Full(full), Call::Commit) => {
+                let Committed { survey, outcome } = full.commit();
+                After::answered(Gauge::Survey(survey), Answer::Committed(outcome))
+            }
+            (Gauge::Full(full), Call::Abandon) => {
+                After::answered(Gauge::Survey(full.abandon()), Answer::Abandoned)
+            }
+            (gauge, _) => After {
+                gauge,
+                answer: None,
+            },
+        }
+    }
+}
+
+impl<P: Net, M: CoatMap> After<P, M> {
+    fn answered(gauge: Gauge<P, M>, answer: Answer) -> Self
+        ensures { result ≡ record { gauge = gauge; answer = Some answer } }
+    {
+        After {
+            gauge,
+            answer: Some(answer),
+        }
+    }
 }

@@ -1,16 +1,25 @@
 // A survey: the coat of a map, added over the places of a plan.
 #![tactic(auto)]
 
-pub mod asks;
-pub mod calls;
-pub mod changes;
+pub mod call;
+pub mod costs;
 pub mod faults;
-pub mod full;
+pub mod full_change;
 pub mod gauge;
-pub mod replays;
-pub mod states;
+pub mod half_change;
+pub mod laws;
+pub mod log;
+pub mod report;
+mod sums;
+pub mod survey;
 
+pub use call::{Answer, Call};
+pub use costs::{depth_cost, places_left, radius};
 pub use faults::{CommitFault, LimitFault, TakeFault};
-pub use gauge::{After, Answer, Call, Gauge};
-pub use replays::replay;
-pub use states::{Committed, FullChange, HalfChange, Report, Survey};
+pub use full_change::{Committed, FullChange};
+pub use gauge::{After, Gauge};
+pub use half_change::HalfChange;
+pub use laws::{show_agreement, show_near, show_promise};
+pub use log::{Run, replay, run_log};
+pub use report::Report;
+pub use survey::Survey;

@@ -13,8 +13,8 @@ use Rattle.sequences.proofs.AreNets.{hammersley_is_net}
 use Rattle.coats.specs.Terms.{IsMap}
 use Rattle.boxes.specs.Rows.{boxes_terms}
 use Rattle.survey.specs.Recipes.{IsRecipe}
-use Rattle.survey.specs.Life.{Lived}
-use Rattle.worked.specs.Figures.{Figures, quarter, grid, plan, opening, two_takes, refused_change}
+use Rattle.survey.specs.Life.{Call, Answer, answer, State, after, Allowed, Steps, Lived}
+use Rattle.worked.specs.Figures.{Figures, quarter, quarter_map, grid, plan, opening, two_takes, refused_change}
 
 past : (r : Result Place PlaceFault) → Placed 2 (hammersley_net 2) 4 r → MatchResult r (λ _. ⊥) (λ e. place_told e ≡ refused 11 (4 ∷ []))
 past (Ok p) h = omega (arith, h.0)
@@ -45,31 +45,21 @@ refused_grid (Err e) (inr (m, x)) =
     let is = grid_first x.d x.n first in
     x.tells ∙ ap (λ d. refused 13 (d ∷ x.n ∷ [])) is.0 ∙ ap (λ n. refused 13 (0 ∷ n ∷ [])) is.1
 
-quarter_map : IsMap (boxes_terms (quarter ∷ []))
-quarter_map = record { sides = search rules; light = omega arith }
+quarter_is_map : IsMap (boxes_terms (quarter ∷ []))
+quarter_is_map = record { sides = search rules; light = omega arith }
 
 recipe : IsRecipe opening
-recipe = record { plan = hammersley_is_net 2 (omega arith); map = quarter_map }
+recipe = record { plan = hammersley_is_net 2 (omega arith); map = quarter_is_map }
+
+-- a call, allowed and answered by the rules
+step : {c : Call} {a : Answer} {s : State} → Allowed s.stage c → a ≡ answer s c → Steps c a s (after c a s)
+step ok at = record { allowed = ok; answers = at; leads = refl }
 
 takes : Lived opening two_takes
-takes = ((((recipe, refl, refl), refl, refl), refl, refl), refl, refl)
+takes = ((((recipe, step refl refl), step refl refl), step refl refl), step refl refl)
 
 change : Lived opening refused_change
-change =
-    ((
-      (
-        (
-          ((((recipe, refl, refl), refl, refl), refl, refl), (refl, hammersley_is_net 3 (omega arith)), refl),
-          ((plan 3, refl), quarter_map),
-          refl,
-        ),
-        (plan 3, boxes_terms (quarter ∷ []), refl),
-        refl,
-      ),
-      refl,
-      refl,
-    )
-    )
+change = (((((((recipe, step refl refl), step refl refl), step refl refl), step (refl, hammersley_is_net 3 (omega arith)) refl), step ((plan 3, refl), quarter_is_map) refl), step (plan 3, quarter_map, refl) refl), step refl refl)
 
 pub figures : Figures
 figures = record {

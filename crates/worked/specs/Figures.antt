@@ -12,8 +12,8 @@ use Rattle.layers.specs.Layers.{shifted, scrambled}
 use Rattle.coats.specs.Terms.{coat, weight}
 use Rattle.boxes.specs.declared.row.BoxRow.{BoxRow}
 use Rattle.boxes.specs.Rows.{boxes_terms}
-use Rattle.survey.specs.Recipes.{Plan, Recipe}
-use Rattle.survey.specs.Life.{History, Lived, take, report, set_limit, begin, map_page, commit, counted, reported, limited, begun, paged, numbered}
+use Rattle.survey.specs.Recipes.{Plan, Map, Recipe}
+use Rattle.survey.specs.Life.{History, Lived, take, report, set_limit, begin, map_page, commit, counted, reported, limited, begun, paged, refusal}
 
 -- the box of weight 3 on the places with x and y below 32768
 abbrev pub quarter : BoxRow
@@ -31,9 +31,13 @@ grid = (0, 0) ∷ (0, 32768) ∷ (32768, 0) ∷ (32768, 32768) ∷ []
 abbrev pub plan : (m : ℕ) → Plan
 plan m = record { level = m; places = hammersley_net m }
 
+-- the map of the first box
+abbrev pub quarter_map : Map
+quarter_map = record { terms = boxes_terms (quarter ∷ []) }
+
 -- Hammersley at level 2, and the first box
 abbrev pub opening : Recipe
-opening = record { plan = plan 2; map = boxes_terms (quarter ∷ []) }
+opening = record { plan = plan 2; map = quarter_map }
 
 -- one place taken and then the other three, each with its report; the newest call is first
 abbrev pub two_takes : History
@@ -43,11 +47,11 @@ two_takes = (report, reported 2 4 (pos 3) 9) ∷ (take 3, counted 4) ∷ (report
 abbrev pub refused_change : History
 refused_change =
     (report, reported 2 1 (pos 3) 18)
-    ∷ (commit, numbered 24 (12 ∷ []))
-    ∷ (map_page (boxes_terms (quarter ∷ [])), paged)
+    ∷ (commit, refusal (refused 24 (12 ∷ [])))
+    ∷ (map_page quarter_map, paged)
     ∷ (begin (plan 3), begun)
     ∷ (set_limit 9, limited)
-    ∷ (set_limit 8, numbered 23 (9 ∷ []))
+    ∷ (set_limit 8, refusal (refused 23 (9 ∷ [])))
     ∷ (take 1, counted 1)
     ∷ []
 

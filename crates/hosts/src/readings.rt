@@ -1,0 +1,41 @@
+// Surveys of any types, read with no life in sight.
+ghost use Rattle.hosts.specs.Readings.{IfSameWithin};
+
+use coats::CoatMap;
+use nets::Net;
+use survey::{Report, Survey, show_agreement};
+
+/// A survey that is lent.
+pub struct Reader<'a, P: Net, M: CoatMap> {
+    survey: &'a Survey<P, M>,
+}
+
+impl<'a, P: Net, M: CoatMap> Reader<'a, P, M> {
+    ghost use Rattle.std.specs.Prelude.{◌≡◌};
+    ghost use Rattle.hosts.specs.Readings.{IsWithin};
+
+    pub fn new(survey: &'a Survey<P, M>) -> Reader<'a, P, M>
+        ensures { result.survey.now ≡ survey.now }
+    {
+        Reader { survey }
+    }
+
+    /// The survey's report, whose sum is within its radius of the truth.
+    pub fn report(&self) -> Report
+        ensures { IsWithin self.now.survey.now result }
+    {
+        self.survey.report()
+    }
+}
+
+/// The reports of two surveys, which agree where their maps have the same terms up to order.
+pub fn compare<P: Net, M: CoatMap, Q: Net, K: CoatMap>(
+    first: &Survey<P, M>,
+    second: &Survey<Q, K>,
+) -> (Report, Report)
+    ensures { IfSameWithin first.now second.now result.0 result.1 }
+{
+    show_agreement(first, second);
+    (first.report(), second.report())
+}
+

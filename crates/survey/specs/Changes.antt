@@ -1,0 +1,44 @@
+-- What each call of a change of recipe gives.
+use Rattle.std.specs.Prelude.{◌≡◌, ◌≤◌, ◌↔◌, MatchResult}
+use Rattle.nets.specs.declared.net.Net.{Ghosts as Nets}
+use Rattle.coats.specs.declared.coat_map.CoatMap.{Ghosts as Maps}
+use Rattle.survey.specs.Recipes.{plan_of, map_of, recipe_of, cost}
+use Rattle.survey.specs.Life.{begin, map_page, commit, abandon, begun, paged, abandoned, half, full, State, Steps}
+use Rattle.survey.specs.Refusals.{commit_answer, commit_number}
+use Rattle.survey.specs.Surveys.{survey_state, Has}
+use Rattle.survey.specs.declared.survey.Survey.{Survey}
+use Rattle.survey.specs.declared.half_change.HalfChange.{HalfChange}
+use Rattle.survey.specs.declared.full_change.FullChange.{FullChange}
+use Rattle.survey.specs.declared.full_change.Committed.{Committed}
+
+module _ {P M : Type 0} {nets : Nets P} {maps : Maps M} where
+  -- the states that a life has come to whose change this is
+  abbrev pub half_state : HalfChange P M nets maps → State
+  half_state c = record (survey_state c.old) { stage = half (plan_of nets c.plan) }
+
+  abbrev pub full_state : FullChange P M nets maps → State
+  full_state c = record (survey_state c.old) { stage = full (plan_of nets c.plan) (map_of maps c.map) }
+
+  -- a change begins with its new plan
+  pub record Begins (p : P) (s : Survey P M nets maps) (c : HalfChange P M nets maps) : Type 0 where
+    pub step : Steps (begin (plan_of nets p)) begun (survey_state s) (half_state c)
+    pub old : c.old ≡ s
+    pub plan : c.plan ≡ p
+
+  -- its new map is added
+  pub record Pages (m : M) (c : HalfChange P M nets maps) (d : FullChange P M nets maps) : Type 0 where
+    pub step : Steps (map_page (map_of maps m)) paged (half_state c) (full_state d)
+    pub old : d.old ≡ c.old
+    pub plan : d.plan ≡ c.plan
+    pub map : d.map ≡ m
+
+  -- accepted, a commit gives a survey of the new recipe; refused, the old survey, entire
+  pub record Commits (c : FullChange P M nets maps) (r : Committed P M nets maps) : Type 0 where
+    pub step : Steps commit (commit_answer r.outcome) (full_state c) (survey_state r.survey)
+    pub number : (commit_number r.outcome ≡ 0) ↔ (cost (recipe_of nets maps c.plan c.map) ≤ c.old.limit)
+    pub after : MatchResult r.outcome (λ _. Has c.plan c.map r.survey) (λ _. r.survey ≡ c.old)
+
+  -- an abandoned change, half or full, gives the old survey, entire
+  pub record Abandons (from : State) (old s : Survey P M nets maps) : Type 0 where
+    pub step : Steps abandon abandoned from (survey_state s)
+    pub after : s ≡ old

@@ -1,0 +1,69 @@
+-- What each call of a survey answers, and what the survey then is.
+use Rattle.std.specs.Prelude.{◌≡◌, ℕ, Result, IfOk, MatchResult, ◌+ℤ◌}
+use Rattle.std.specs.List.Sorted.{IsPermutation}
+use Rattle.nets.specs.declared.net.Net.{Ghosts as Nets}
+use Rattle.coats.specs.declared.coat_map.CoatMap.{Ghosts as Maps}
+use Rattle.radius.specs.Radius.{Near, Agree}
+use Rattle.survey.specs.Recipes.{Recipe, IsRecipe, recipe_of, coats, radius}
+use Rattle.survey.specs.Life.{take, report, set_limit, survey, State, opening, Steps}
+use Rattle.survey.specs.Refusals.{take_answer, limit_answer}
+use Rattle.survey.specs.Reports.{report_answer}
+use Rattle.survey.specs.declared.faults.TakeFault.{TakeFault}
+use Rattle.survey.specs.declared.faults.LimitFault.{LimitFault}
+use Rattle.survey.specs.declared.report.Report.{Report}
+use Rattle.survey.specs.declared.survey.Survey.{Survey}
+
+module _ {P M : Type 0} {nets : Nets P} {maps : Maps M} where
+  -- the recipe that a survey holds
+  abbrev pub recipe : Survey P M nets maps → Recipe
+  recipe s = recipe_of nets maps s.plan s.map
+
+  -- n
+  abbrev pub count_of : Survey P M nets maps → ℕ
+  count_of s = s.count
+
+  -- R
+  abbrev pub radius_of : Survey P M nets maps → ℕ
+  radius_of s = radius (recipe s) (count_of s)
+
+  -- the state that a life has come to whose survey this is
+  abbrev pub survey_state : Survey P M nets maps → State
+  survey_state s = record { stage = survey; held = recipe s; limit = s.limit; taken = count_of s }
+
+  -- a survey of these very pages
+  pub record Has (p : P) (m : M) (s : Survey P M nets maps) : Type 0 where
+    pub plan : s.plan ≡ p
+    pub map : s.map ≡ m
+
+  -- a survey as it is opened
+  pub record Opens (p : P) (m : M) (s : Survey P M nets maps) : Type 0 where
+    pub recipe : IsRecipe (recipe_of nets maps p m)
+    pub state : survey_state s ≡ opening (recipe_of nets maps p m)
+    pub pages : Has p m s
+
+  -- accepted, a take adds the coat at k more places; refused, it leaves the survey as it was
+  pub record Takes (k : ℕ) (old new : Survey P M nets maps) (r : Result ℕ TakeFault) : Type 0 where
+    pub step : Steps (take k) (take_answer r) (survey_state old) (survey_state new)
+    pub after : MatchResult r (λ _. Has old.plan old.map new) (λ _. new ≡ old)
+    pub adds : IfOk r (λ _. new.sum ≡ old.sum +ℤ coats (recipe old) (count_of old) k)
+
+  -- accepted, a limit is set; refused, it leaves the survey as it was
+  pub record Limits {X : Type 0} (l : ℕ) (old new : Survey P M nets maps) (r : Result X LimitFault) : Type 0 where
+    pub step : Steps (set_limit l) (limit_answer r) (survey_state old) (survey_state new)
+    pub after : MatchResult r (λ _. Has old.plan old.map new) (λ _. new ≡ old)
+
+  -- a report tells m, n, S and R, and S is within R of the truth
+  pub record Reports (s : Survey P M nets maps) (r : Report) : Type 0 where
+    pub step : Steps report (report_answer r) (survey_state s) (survey_state s)
+    pub near : Near r.level (recipe s).map.terms r.sum r.radius
+
+  -- its sum is within its radius of the truth
+  abbrev pub IsNear : Survey P M nets maps → Type 0
+  IsNear s = Near (recipe s).plan.level (recipe s).map.terms s.sum (radius_of s)
+
+-- two surveys of any types agree within their radii where their maps have the same terms up to order
+abbrev pub IfSameAgree : {P M Q K : Type 0} {nets : Nets P} {maps : Maps M} {nets' : Nets Q} {maps' : Maps K} →
+    Survey P M nets maps → Survey Q K nets' maps' → Type 0
+IfSameAgree s t =
+    IsPermutation (recipe s).map.terms (recipe t).map.terms →
+    Agree (recipe s).plan.level (recipe t).plan.level s.sum t.sum (radius_of s) (radius_of t)

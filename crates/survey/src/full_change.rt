@@ -1,0 +1,61 @@
+// A change of recipe that has both its pages.
+use crate::costs::depth_cost;
+use crate::faults::CommitFault;
+use crate::survey::Survey;
+use coats::CoatMap;
+use nets::Net;
+
+/// A survey, and a new plan and a new map for it.
+#[derive(Debug, Drop)]
+pub struct FullChange<P: Net, M: CoatMap> {
+    pub(crate) old: Survey<P, M>,
+    pub(crate) plan: P,
+    pub(crate) map: M,
+}
+
+/// What a commit gives: a survey of the new recipe, or the old survey, entire. A survey comes out either
+/// way, so it stands beside the outcome and not in each case.
+#[derive(Debug, Drop)]
+pub struct Committed<P: Net, M: CoatMap> {
+    pub survey: Survey<P, M>,
+    pub outcome: Result<(), CommitFault>,
+}
+
+impl<P: Net + Drop, M: CoatMap + Drop> FullChange<P, M> {
+    ghost use Rattle.survey.specs.Changes.{full_state, Commits, Abandons};
+
+    /// A survey of the new recipe with nothing taken; or, with 24, the old one, entire, if the depths of the
+    /// new recipe cost more than the limit.
+    pub fn commit(self) -> Committed<P, M>
+        ensures { Commits self result }
+    {
+        let cost = depth_cost(&self.plan, &self.map);
+        let FullChange { old, plan, map } = self;
+        if cost > old.limit {
+            return Committed {
+                survey: old,
+                outcome: Err(CommitFault(cost)),
+            };
+        }
+        plan.show_net();
+        map.show_map();
+        let survey = Survey {
+            plan,
+            map,
+            count: 0,
+            sum: 0,
+            limit: old.limit,
+        };
+        Committed {
+            survey,
+            outcome: Ok(()),
+        }
+    }
+
+    /// The old survey, entire.
+    pub fn abandon(self) -> Survey<P, M>
+        ensures { Abandons (full_state self) self.old result }
+    {
+        self.old
+    }
+}

@@ -1,0 +1,32 @@
+// A change of recipe that has its new plan. Until a change is committed the old survey is kept whole.
+use crate::full_change::FullChange;
+use crate::survey::Survey;
+use coats::CoatMap;
+use nets::Net;
+
+/// A survey and a new plan for it.
+#[derive(Debug, Drop)]
+pub struct HalfChange<P: Net, M: CoatMap> {
+    pub(crate) old: Survey<P, M>,
+    pub(crate) plan: P,
+}
+
+impl<P: Net + Drop, M: CoatMap + Drop> HalfChange<P, M> {
+    ghost use Rattle.survey.specs.Changes.{half_state, Pages, Abandons};
+
+    /// Adds the new map.
+    pub fn map_page(self, map: M) -> FullChange<P, M>
+        ensures { Pages map self result }
+    {
+        map.show_map();
+        let HalfChange { old, plan } = self;
+        FullChange { old, plan, map }
+    }
+
+    /// The old survey, entire.
+    pub fn abandon(self) -> Survey<P, M>
+        ensures { Abandons (half_state self) self.old result }
+    {
+        self.old
+    }
+}

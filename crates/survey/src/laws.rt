@@ -1,0 +1,29 @@
+// What every survey and every life keeps. The functions do nothing when they are run; their contracts are the laws.
+ghost use Rattle.survey.specs.Promise.{Kept, Lives};
+ghost use Rattle.survey.specs.Surveys.{IsNear, IfSameAgree};
+
+use crate::survey::Survey;
+use coats::CoatMap;
+use nets::Net;
+
+/// Every life keeps the promise, and every call that is made as its contract says carries on each life.
+#[tactic(auto, using(crate::proofs::Promises::promise, crate::proofs::Promises::lives))]
+pub fn show_promise()
+    ensures promise { Kept }
+    ensures lives { Lives }
+{}
+
+/// The sum of any survey is within its radius of the truth.
+#[tactic(auto, using(radius::proofs::Sums::sums_near))]
+pub fn show_near<P: Net, M: CoatMap>(survey: &Survey<P, M>)
+    ensures { IsNear survey.now }
+{}
+
+/// Any two surveys, of whatever types, whose maps have the same terms up to order agree within their radii.
+#[tactic(auto, using(radius::proofs::Sums::sums_agree))]
+pub fn show_agreement<P: Net, M: CoatMap, Q: Net, K: CoatMap>(
+    first: &Survey<P, M>,
+    second: &Survey<Q, K>,
+)
+    ensures { IfSameAgree first.now second.now }
+{}
