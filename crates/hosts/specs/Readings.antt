@@ -1,17 +1,13 @@
--- What a host knows of surveys that it is lent.
+-- What a host knows of two surveys that it is lent.
 use Rattle.std.specs.List.Sorted.{IsPermutation}
 use Rattle.nets.specs.declared.net.Net.{Ghosts as Nets}
 use Rattle.coats.specs.declared.coat_map.CoatMap.{Ghosts as Maps}
-use Rattle.radius.specs.Radius.{Near, Agree}
+use Rattle.radius.specs.Radius.{Agree}
 use Rattle.survey.specs.Surveys.{recipe}
 use Rattle.survey.specs.declared.survey.Survey.{Survey}
 use Rattle.survey.specs.declared.report.Report.{Report}
 
--- the sum that is reported is within its radius of the truth
-abbrev pub IsWithin : {P M : Type 0} {nets : Nets P} {maps : Maps M} → Survey P M nets maps → Report → Type 0
-IsWithin s r = Near r.level (recipe s).map.terms r.sum r.radius
-
--- two sums agree within their radii where the maps have the same terms up to order
-abbrev pub IfSameWithin : {P M Q K : Type 0} {nets : Nets P} {maps : Maps M} {nets' : Nets Q} {maps' : Maps K} →
+-- their reports agree within their radii where the maps have the same terms up to order
+abbrev pub ReportsAgree : {P M Q K : Type 0} {nets : Nets P} {maps : Maps M} {nets' : Nets Q} {maps' : Maps K} →
     Survey P M nets maps → Survey Q K nets' maps' → (r r' : Report) → Type 0
-IfSameWithin s t r r' = IsPermutation (recipe s).map.terms (recipe t).map.terms → Agree r.level r'.level r.sum r'.sum r.radius r'.radius
+ReportsAgree s t r r' = IsPermutation (recipe s).map.terms (recipe t).map.terms → Agree r.level r'.level r.sum r'.sum r.radius r'.radius

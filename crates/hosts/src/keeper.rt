@@ -13,7 +13,7 @@ pub struct Keeper<P: Net, M: CoatMap> {
 }
 
 impl<P: Net + Drop, M: CoatMap + Drop> Keeper<P, M> {
-    ghost use Rattle.survey.specs.Gauges.{Asks, AskLives};
+    ghost use Rattle.survey.specs.Gauges.{Asks, AskSteps, AskLives};
     ghost use Rattle.hosts.specs.Lives.{IsOpen};
 
     /// Opens a gauge: a life begins.
@@ -31,6 +31,7 @@ impl<P: Net + Drop, M: CoatMap + Drop> Keeper<P, M> {
     #[tactic(auto, using(crate::proofs::LivesOn::lives_on))]
     pub fn ask(self, call: Call<P, M>) -> (Keeper<P, M>, Option<Answer>)
         ensures rule { Asks self.gauge call (record { gauge = result.0.gauge; answer = result.1 }) }
+        ensures step { AskSteps self.gauge call (record { gauge = result.0.gauge; answer = result.1 }) }
         ensures life { AskLives self.gauge call (record { gauge = result.0.gauge; answer = result.1 }) }
     {
         let After { gauge, answer } = self.gauge.ask(call);

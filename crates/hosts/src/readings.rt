@@ -1,18 +1,18 @@
 // Surveys of any types, read with no life in sight.
-ghost use Rattle.hosts.specs.Readings.{IfSameWithin};
+ghost use Rattle.hosts.specs.Readings.{ReportsAgree};
 
 use coats::CoatMap;
 use nets::Net;
 use survey::{Report, Survey, show_agreement};
 
-/// A survey that is lent.
+/// A survey that is lent, to be read.
 pub struct Reader<'a, P: Net, M: CoatMap> {
     survey: &'a Survey<P, M>,
 }
 
 impl<'a, P: Net, M: CoatMap> Reader<'a, P, M> {
     ghost use Rattle.std.specs.Prelude.{◌≡◌};
-    ghost use Rattle.hosts.specs.Readings.{IsWithin};
+    ghost use Rattle.survey.specs.Surveys.{ReportIsNear};
 
     pub fn new(survey: &'a Survey<P, M>) -> Reader<'a, P, M>
         ensures { result.survey.now ≡ survey.now }
@@ -22,7 +22,7 @@ impl<'a, P: Net, M: CoatMap> Reader<'a, P, M> {
 
     /// The survey's report, whose sum is within its radius of the truth.
     pub fn report(&self) -> Report
-        ensures { IsWithin self.now.survey.now result }
+        ensures { ReportIsNear self.now.survey.now result }
     {
         self.survey.report()
     }
@@ -33,7 +33,7 @@ pub fn compare<P: Net, M: CoatMap, Q: Net, K: CoatMap>(
     first: &Survey<P, M>,
     second: &Survey<Q, K>,
 ) -> (Report, Report)
-    ensures { IfSameWithin first.now second.now result.0 result.1 }
+    ensures { ReportsAgree first.now second.now result.0 result.1 }
 {
     show_agreement(first, second);
     (first.report(), second.report())

@@ -1,6 +1,6 @@
 -- A sum over the first places of a net, term by term: each term costs its box's error and the places
 -- that are not taken. Two sums near one integral are near each other.
-use Rattle.std.proofs.Common.{◌≡◌, ℕ, suc, ◌+◌, ◌-◌, ◌*◌, ◌^◌, ◌≤◌, List, [], ◌∷◌, take, ℤ, pos, negsuc, ◌+ℤ◌, ◌-ℤ◌, ◌*ℤ◌, nat_abs, count_by, sum_by, sym, ap, ◌∙◌, subst, add-mul, mul-le-mul_left, mul-add, arith}
+use Rattle.std.proofs.Common.{◌≡◌, ℕ, suc, ◌+◌, ◌-◌, ◌*◌, ◌^◌, List, [], ◌∷◌, take, ℤ, pos, negsuc, ◌*ℤ◌, nat_abs, count_by, sum_by, sym, ap, ◌∙◌, subst, add-mul, mul-le-mul_left, mul-add, arith}
 use borrow.Author.Differences.{product_is}
 use Rattle.std.specs.List.{All}
 use Rattle.std.proofs.lemmas.Int.{ints}

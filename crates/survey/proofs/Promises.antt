@@ -7,7 +7,8 @@ use Rattle.survey.specs.Recipes.{Recipe, IsRecipe}
 use Rattle.survey.specs.Life.{Call, Answer, report, reported, answer, History, State, opening, after, state, Steps, Lived}
 use Rattle.survey.specs.Runs.{Runs, opened, answered, barred}
 use Rattle.survey.specs.Promise.{Reported, terms_at, calls, answers, Kept, ComesTo, Continues, Lives}
-use Rattle.survey.proofs.Steps.{step_from, held_is, told, told_near}
+use Rattle.survey.proofs.Steps.{step_from, held_is}
+use Rattle.survey.proofs.Nears.{told, told_near}
 use Rattle.survey.proofs.Strikes.{strike}
 
 module _ (o : Recipe) where
@@ -71,12 +72,10 @@ pub begins : (o : Recipe) → IsRecipe o → ComesTo o [] (opening o)
 begins o is = record { promise = promise o [] is; here = refl }
 
 pub continues : (c : Call) (a : Answer) (from to : State) → Steps c a from to → Continues c a from to
-continues c a from to step =
+continues c a from to step o h at =
     record {
-      life = λ o h at. record {
-        promise = promise o _ (at.promise.lived, step_from c a from (state o h) at.here step.allowed step.answers);
-        here = ap (after c a) at.here ∙ sym step.leads;
-      };
+      promise = promise o _ (at.promise.lived, step_from c a from (state o h) at.here step.allowed step.answers);
+      here = ap (after c a) at.here ∙ sym step.leads;
     }
 
 pub lives : Lives

@@ -21,24 +21,29 @@ module _ {P M : Type 0} {nets : Nets P} {maps : Maps M} where
 
   -- a change begins with its new plan
   pub record Begins (p : P) (s : Survey P M nets maps) (c : HalfChange P M nets maps) : Type 0 where
-    pub step : Steps (begin (plan_of nets p)) begun (survey_state s) (half_state c)
     pub old : c.old ≡ s
     pub plan : c.plan ≡ p
 
+  abbrev pub BeginSteps : P → Survey P M nets maps → HalfChange P M nets maps → Type 0
+  BeginSteps p s c = Steps (begin (plan_of nets p)) begun (survey_state s) (half_state c)
+
   -- its new map is added
   pub record Pages (m : M) (c : HalfChange P M nets maps) (d : FullChange P M nets maps) : Type 0 where
-    pub step : Steps (map_page (map_of maps m)) paged (half_state c) (full_state d)
     pub old : d.old ≡ c.old
     pub plan : d.plan ≡ c.plan
     pub map : d.map ≡ m
 
-  -- accepted, a commit gives a survey of the new recipe; refused, the old survey, entire
+  abbrev pub PageSteps : M → HalfChange P M nets maps → FullChange P M nets maps → Type 0
+  PageSteps m c d = Steps (map_page (map_of maps m)) paged (half_state c) (full_state d)
+
+  -- accepted, with the number 0, a commit gives a survey of the new recipe; refused, the old survey, entire
   pub record Commits (c : FullChange P M nets maps) (r : Committed P M nets maps) : Type 0 where
-    pub step : Steps commit (commit_answer r.outcome) (full_state c) (survey_state r.survey)
     pub number : (commit_number r.outcome ≡ 0) ↔ (cost (recipe_of nets maps c.plan c.map) ≤ c.old.limit)
     pub after : MatchResult r.outcome (λ _. Has c.plan c.map r.survey) (λ _. r.survey ≡ c.old)
 
-  -- an abandoned change, half or full, gives the old survey, entire
-  pub record Abandons (from : State) (old s : Survey P M nets maps) : Type 0 where
-    pub step : Steps abandon abandoned from (survey_state s)
-    pub after : s ≡ old
+  abbrev pub CommitSteps : FullChange P M nets maps → Committed P M nets maps → Type 0
+  CommitSteps c r = Steps commit (commit_answer r.outcome) (full_state c) (survey_state r.survey)
+
+  -- a change that is abandoned, half or full
+  abbrev pub AbandonSteps : (from : State) → Survey P M nets maps → Type 0
+  AbandonSteps from s = Steps abandon abandoned from (survey_state s)

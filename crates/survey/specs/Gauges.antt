@@ -1,15 +1,15 @@
 -- What a call as a value does to a gauge, and to the lives that have come to it.
-use Rattle.std.specs.Prelude.{◌≡◌, MatchOption}
+use Rattle.std.specs.Prelude.{◌≡◌, IfSome, MatchOption}
 use Rattle.nets.specs.declared.net.Net.{Ghosts as Nets}
 use Rattle.coats.specs.declared.coat_map.CoatMap.{Ghosts as Maps}
 use Rattle.survey.specs.Recipes.{plan_of, map_of}
 use Rattle.survey.specs.Life as life
-use Rattle.survey.specs.Life.{State, Allowed}
+use Rattle.survey.specs.Life.{State, Allowed, Steps}
 use Rattle.survey.specs.Promise.{Continues}
 use Rattle.survey.specs.Refusals.{take_answer, limit_answer, commit_answer}
 use Rattle.survey.specs.Reports.{report_answer}
-use Rattle.survey.specs.Surveys.{survey_state, Takes, Limits, Reports}
-use Rattle.survey.specs.Changes.{half_state, full_state, Begins, Pages, Commits, Abandons}
+use Rattle.survey.specs.Surveys.{survey_state, Takes, Limits, ReportIsNear}
+use Rattle.survey.specs.Changes.{half_state, full_state, Begins, Pages, Commits}
 use Rattle.survey.specs.declared.call.Call.{Call}
 use Rattle.survey.specs.declared.call.Call.TheVariants as call
 use Rattle.survey.specs.declared.call.Answer.{Answer}
@@ -52,19 +52,23 @@ module _ {P M : Type 0} {nets : Nets P} {maps : Maps M} where
   -- an allowed call does what the call of the survey or the change does
   abbrev pub Does : Gauge P M nets maps → Call P M → Gauge P M nets maps → Answer → Type 0
   Does (at.Survey old) (call.Take k) (at.Survey new) (answer.Taken r) = Takes k old new r
-  Does (at.Survey old) call.Report (at.Survey new) (answer.Reported r) = (new ≡ old) × Reports old r
-  Does (at.Survey old) (call.Limit l) (at.Survey new) (answer.Limited r) = Limits l old new r
+  Does (at.Survey old) call.Report (at.Survey new) (answer.Reported r) = (new ≡ old) × ReportIsNear old r
+  Does (at.Survey old) (call.Limit l) (at.Survey new) (answer.Limited r) = Limits old new r
   Does (at.Survey s) (call.Begin p) (at.Half c) answer.Begun = Begins p s c
   Does (at.Half c) (call.MapPage m) (at.Full d) answer.Paged = Pages m c d
-  Does (at.Half c) call.Abandon (at.Survey s) answer.Abandoned = Abandons (half_state c) c.old s
+  Does (at.Half c) call.Abandon (at.Survey s) answer.Abandoned = s ≡ c.old
   Does (at.Full c) call.Commit (at.Survey s) (answer.Committed r) = Commits c (record { survey = s; outcome = r })
-  Does (at.Full c) call.Abandon (at.Survey s) answer.Abandoned = Abandons (full_state c) c.old s
+  Does (at.Full c) call.Abandon (at.Survey s) answer.Abandoned = s ≡ c.old
   Does _ _ _ _ = ⊥
 
   -- any other does nothing, and has no answer
   abbrev pub Asks : Gauge P M nets maps → Call P M → After P M nets maps → Type 0
-  Asks g c r = MatchOption r.answer ((r.gauge ≡ g) × Bars g c) (λ a. Does g c r.gauge a)
+  Asks g c r = MatchOption r.answer (r.gauge ≡ g) (λ a. Does g c r.gauge a)
 
-  -- an allowed call carries on each life that has come to the gauge, with the promise whole; any other is allowed in none
-  abbrev pub AskLives : Gauge P M nets maps → Call P M → After P M nets maps → Type 0
-  AskLives g c r = MatchOption r.answer (Bars g c) (λ a. Continues (asked nets maps c) (told a) (gauge_state g) (gauge_state r.gauge))
+  -- an allowed call is a step; any other is barred
+  abbrev pub AskSteps : Gauge P M nets maps → Call P M → After P M nets maps → Type 0
+  AskSteps g c r = MatchOption r.answer (Bars g c) (λ a. Steps (asked nets maps c) (told a) (gauge_state g) (gauge_state r.gauge))
+
+  -- an allowed call carries on each life that has come to the gauge, with the promise whole
+  pub record AskLives (g : Gauge P M nets maps) (c : Call P M) (r : After P M nets maps) : Type 0 where
+    pub continues : IfSome r.answer (λ a. Continues (asked nets maps c) (told a) (gauge_state g) (gauge_state r.gauge))

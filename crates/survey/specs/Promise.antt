@@ -53,8 +53,8 @@ pub record ComesTo (o : Recipe) (h : History) (s : State) : Type 0 where
   pub here : state o h ≡ s
 
 -- a call with its answer carries on each life that has come to one state: one call longer, it has come to the other
-pub record Continues (c : Call) (a : Answer) (from to : State) : Type 0 where
-  pub life : (o : Recipe) (h : History) → ComesTo o h from → ComesTo o ((c, a) ∷ h) to
+abbrev pub Continues : Call → Answer → (from to : State) → Type 0
+Continues c a from to = (o : Recipe) (h : History) → ComesTo o h from → ComesTo o ((c, a) ∷ h) to
 
 -- a life begins as it is opened, and each step carries it on
 pub record Lives : Type 0 where

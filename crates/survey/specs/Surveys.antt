@@ -41,21 +41,28 @@ module _ {P M : Type 0} {nets : Nets P} {maps : Maps M} where
     pub state : survey_state s ≡ opening (recipe_of nets maps p m)
     pub pages : Has p m s
 
-  -- accepted, a take adds the coat at k more places; refused, it leaves the survey as it was
+  -- accepted, a take adds the coat at k more places of its plan; refused, it leaves the survey as it was
   pub record Takes (k : ℕ) (old new : Survey P M nets maps) (r : Result ℕ TakeFault) : Type 0 where
-    pub step : Steps (take k) (take_answer r) (survey_state old) (survey_state new)
     pub after : MatchResult r (λ _. Has old.plan old.map new) (λ _. new ≡ old)
     pub adds : IfOk r (λ _. new.sum ≡ old.sum +ℤ coats (recipe old) (count_of old) k)
 
-  -- accepted, a limit is set; refused, it leaves the survey as it was
-  pub record Limits {X : Type 0} (l : ℕ) (old new : Survey P M nets maps) (r : Result X LimitFault) : Type 0 where
-    pub step : Steps (set_limit l) (limit_answer r) (survey_state old) (survey_state new)
-    pub after : MatchResult r (λ _. Has old.plan old.map new) (λ _. new ≡ old)
+  abbrev pub TakeSteps : (k : ℕ) (old new : Survey P M nets maps) → Result ℕ TakeFault → Type 0
+  TakeSteps k old new r = Steps (take k) (take_answer r) (survey_state old) (survey_state new)
 
-  -- a report tells m, n, S and R, and S is within R of the truth
-  pub record Reports (s : Survey P M nets maps) (r : Report) : Type 0 where
-    pub step : Steps report (report_answer r) (survey_state s) (survey_state s)
-    pub near : Near r.level (recipe s).map.terms r.sum r.radius
+  -- a report tells m, n, S and R
+  abbrev pub ReportSteps : Survey P M nets maps → Report → Type 0
+  ReportSteps s r = Steps report (report_answer r) (survey_state s) (survey_state s)
+
+  -- and S is within R of the truth
+  abbrev pub ReportIsNear : Survey P M nets maps → Report → Type 0
+  ReportIsNear s r = Near r.level (recipe s).map.terms r.sum r.radius
+
+  -- accepted, a limit keeps the plan and the map; refused, it leaves the survey as it was
+  abbrev pub Limits : {X : Type 0} (old new : Survey P M nets maps) → Result X LimitFault → Type 0
+  Limits old new r = MatchResult r (λ _. Has old.plan old.map new) (λ _. new ≡ old)
+
+  abbrev pub LimitSteps : {X : Type 0} (l : ℕ) (old new : Survey P M nets maps) → Result X LimitFault → Type 0
+  LimitSteps l old new r = Steps (set_limit l) (limit_answer r) (survey_state old) (survey_state new)
 
   -- its sum is within its radius of the truth
   abbrev pub IsNear : Survey P M nets maps → Type 0

@@ -1,4 +1,6 @@
 // A change of recipe that has both its pages.
+ghost use Rattle.std.specs.Prelude.{◌≡◌};
+
 use crate::costs::depth_cost;
 use crate::faults::CommitFault;
 use crate::survey::Survey;
@@ -22,12 +24,13 @@ pub struct Committed<P: Net, M: CoatMap> {
 }
 
 impl<P: Net + Drop, M: CoatMap + Drop> FullChange<P, M> {
-    ghost use Rattle.survey.specs.Changes.{full_state, Commits, Abandons};
+    ghost use Rattle.survey.specs.Changes.{full_state, Commits, CommitSteps, AbandonSteps};
 
     /// A survey of the new recipe with nothing taken; or, with 24, the old one, entire, if the depths of the
     /// new recipe cost more than the limit.
     pub fn commit(self) -> Committed<P, M>
-        ensures { Commits self result }
+        ensures rule { Commits self result }
+        ensures step { CommitSteps self result }
     {
         let cost = depth_cost(&self.plan, &self.map);
         let FullChange { old, plan, map } = self;
@@ -54,7 +57,8 @@ impl<P: Net + Drop, M: CoatMap + Drop> FullChange<P, M> {
 
     /// The old survey, entire.
     pub fn abandon(self) -> Survey<P, M>
-        ensures { Abandons (full_state self) self.old result }
+        ensures rule { result ≡ self.old }
+        ensures step { AbandonSteps (full_state self) result }
     {
         self.old
     }

@@ -24,13 +24,21 @@ pub struct After<P: Net, M: CoatMap> {
 }
 
 impl<P: Net + Drop, M: CoatMap + Drop> Gauge<P, M> {
-    ghost use Rattle.survey.specs.Gauges.{Asks, AskLives};
+    ghost use Rattle.survey.specs.Gauges.{Asks, AskSteps, AskLives};
 
     /// Makes a call, if the state allows it. Any other changes nothing, and has no answer.
-    #[tactic(auto, using(crate::proofs::Promises::continues))]
     pub fn ask(self, call: Call<P, M>) -> After<P, M>
         ensures rule { Asks self call result }
+        ensures step { AskSteps self call result }
         ensures life { AskLives self call result }
+    {
+        self.step(call)
+    }
+
+    // The call of the state that allows it.
+    fn step(self, call: Call<P, M>) -> After<P, M>
+        ensures rule { Asks self call result }
+        ensures step { AskSteps self call result }
     {
         match (self, call) {
             (Gauge::Survey(mut survey), Call::Take(k)) => {

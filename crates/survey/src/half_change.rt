@@ -1,4 +1,6 @@
 // A change of recipe that has its new plan. Until a change is committed the old survey is kept whole.
+ghost use Rattle.std.specs.Prelude.{◌≡◌};
+
 use crate::full_change::FullChange;
 use crate::survey::Survey;
 use coats::CoatMap;
@@ -12,11 +14,12 @@ pub struct HalfChange<P: Net, M: CoatMap> {
 }
 
 impl<P: Net + Drop, M: CoatMap + Drop> HalfChange<P, M> {
-    ghost use Rattle.survey.specs.Changes.{half_state, Pages, Abandons};
+    ghost use Rattle.survey.specs.Changes.{half_state, Pages, PageSteps, AbandonSteps};
 
     /// Adds the new map.
     pub fn map_page(self, map: M) -> FullChange<P, M>
-        ensures { Pages map self result }
+        ensures rule { Pages map self result }
+        ensures step { PageSteps map self result }
     {
         map.show_map();
         let HalfChange { old, plan } = self;
@@ -25,7 +28,8 @@ impl<P: Net + Drop, M: CoatMap + Drop> HalfChange<P, M> {
 
     /// The old survey, entire.
     pub fn abandon(self) -> Survey<P, M>
-        ensures { Abandons (half_state self) self.old result }
+        ensures rule { result ≡ self.old }
+        ensures step { AbandonSteps (half_state self) result }
     {
         self.old
     }

@@ -14,13 +14,13 @@ pub fn show_promise()
 {}
 
 /// The sum of any survey is within its radius of the truth.
-#[tactic(auto, using(radius::proofs::Sums::sums_near))]
+#[tactic(auto, using(crate::proofs::Nears::survey_near))]
 pub fn show_near<P: Net, M: CoatMap>(survey: &Survey<P, M>)
     ensures { IsNear survey.now }
 {}
 
 /// Any two surveys, of whatever types, whose maps have the same terms up to order agree within their radii.
-#[tactic(auto, using(radius::proofs::Sums::sums_agree))]
+#[tactic(auto, using(crate::proofs::Nears::surveys_agree))]
 pub fn show_agreement<P: Net, M: CoatMap, Q: Net, K: CoatMap>(
     first: &Survey<P, M>,
     second: &Survey<Q, K>,

@@ -1,16 +1,17 @@
 // The coat of a map over places of a plan.
-ghost use Rattle.std.specs.Prelude.{◌≡◌, ◌+◌, ◌*◌, ◌^◌, ◌<◌, ◌≤◌, slice_index_or, unsigned_abs};
+ghost use Rattle.std.specs.Prelude.{◌≡◌, ◌+◌, ◌+ℤ◌, ◌*◌, ◌^◌, ◌<◌, ◌≤◌, slice_index_or, unsigned_abs};
 ghost use Rattle.coats.specs.Terms.{coat as coated};
-ghost use Rattle.survey.specs.Recipes.{recipe_of, coats as coats_of};
+ghost use Rattle.survey.specs.Recipes.{recipe_of, coat_sum, coats as coats_of};
 
 use coats::CoatMap;
 use nets::Net;
 
 // The coat added over the next k places from an index on.
-#[tactic(auto, using(crate::proofs::Coats::coats_more))]
+#[tactic(auto, using(crate::proofs::Coats::coats_more, crate::proofs::Coats::coats_added))]
 pub(crate) fn coats<P: Net, M: CoatMap>(plan: &P, map: &M, first: u32, k: u32) -> i64
     requires { first + k ≤ 2 ^ P.level plan.now }
     ensures value { result ≡ coats_of (recipe_of P.Net M.CoatMap plan.now map.now) first k }
+    ensures joined { coat_sum (recipe_of P.Net M.CoatMap plan.now map.now) (first + k) ≡ coat_sum (recipe_of P.Net M.CoatMap plan.now map.now) first +ℤ result }
     ensures bound { unsigned_abs result ≤ 16384 * k }
 {
     plan.show_net();

@@ -34,9 +34,9 @@ pub struct Survey<P: Net, M: CoatMap> {
 
 impl<P: Net, M: CoatMap> Survey<P, M> {
     ghost use Rattle.survey.specs.Recipes.{cost, left as unread};
-    ghost use Rattle.survey.specs.Surveys.{recipe, count_of, radius_of, Opens, Takes, Limits, Reports};
+    ghost use Rattle.survey.specs.Surveys.{recipe, count_of, Opens, Takes, TakeSteps, ReportSteps, ReportIsNear, Limits, LimitSteps};
     ghost use Rattle.survey.specs.Reports.{IsBounded};
-    ghost use Rattle.survey.specs.Changes.{Begins};
+    ghost use Rattle.survey.specs.Changes.{Begins, BeginSteps};
 
     /// A survey of a plan and a map, with nothing taken and the limit 212,992.
     pub fn open(plan: P, map: M) -> Self
@@ -57,9 +57,9 @@ impl<P: Net, M: CoatMap> Survey<P, M> {
     ///
     /// # Errors
     /// 21 for no places, and 22 for more than are left.
-    #[tactic(auto, using(crate::proofs::Coats::coats_added))]
     pub fn take(&mut self, k: u32) -> Result<u32, TakeFault>
-        ensures { Takes k self.old self.new result }
+        ensures rule { Takes k self.old self.new result }
+        ensures step { TakeSteps k self.old self.new result }
     {
         if k == 0 {
             return Err(TakeFault::Nothing);
@@ -76,7 +76,8 @@ impl<P: Net, M: CoatMap> Survey<P, M> {
 
     /// The level, the count, the sum, and how far the sum can be off.
     pub fn report(&self) -> Report
-        ensures rule { Reports self.now result }
+        ensures step { ReportSteps self.now result }
+        ensures near { ReportIsNear self.now result }
         ensures bounds { IsBounded result }
     {
         Report {
@@ -92,7 +93,8 @@ impl<P: Net, M: CoatMap> Survey<P, M> {
     /// # Errors
     /// 23 where the depths of the survey's own recipe cost more.
     pub fn set_limit(&mut self, limit: u64) -> Result<(), LimitFault>
-        ensures { Limits limit self.old self.new result }
+        ensures rule { Limits self.old self.new result }
+        ensures step { LimitSteps limit self.old self.new result }
     {
         let cost = self.depth_cost();
         if cost > limit {
@@ -104,7 +106,8 @@ impl<P: Net, M: CoatMap> Survey<P, M> {
 
     /// Begins a change of recipe with its new plan.
     pub fn begin(self, plan: P) -> HalfChange<P, M>
-        ensures { Begins plan self result }
+        ensures rule { Begins plan self result }
+        ensures step { BeginSteps plan self result }
     {
         plan.show_net();
         HalfChange { old: self, plan }

@@ -7,7 +7,7 @@ pub loop-call-preserved : goal.loop-call-preserved
 loop-call-preserved g c = record {
   calls = grind (arith, common_steps);
   room = search rules;
-  run = run_more c.args.plan c.args.map _ _ _ _ _ _ c.loop-call.invariant.run c.ask-after.ensures.rule c.ask-after.ensures.life c.push_reserved.ensures.items;
+  run = run_more c.args.plan c.args.map _ _ _ _ _ _ c.loop-call.invariant.run c.ask-after.ensures.rule c.ask-after.ensures.step c.ask-after.ensures.life c.push_reserved.ensures.items;
 }
 
 pub loop-call-init : goal.loop-call-init
