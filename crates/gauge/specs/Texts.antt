@@ -7,7 +7,7 @@ use Rattle.coats.specs.declared.faults.MapFault.TheVariants as of_map
 use Rattle.jobs.specs.Refusals.{refusal_told}
 use Rattle.jobs.specs.Texts.{told_text}
 use Rattle.survey.specs.Life.{counted, reported, limited, begun, paged, committed, abandoned, refusal}
-use Rattle.survey.specs.Life.{Answer as Told}
+use Rattle.survey.specs.Life.{Answer as LifeAnswer}
 use Rattle.survey.specs.Gauges.{told}
 use Rattle.gauge.specs.declared.faults.Unreadable.{Unreadable}
 use Rattle.gauge.specs.declared.faults.Unreadable.TheVariants as of_line
@@ -32,8 +32,8 @@ fault_text of_line.PlanKind = codes "another kind of plan"
 fault_text of_line.MapKind = codes "another kind of map"
 fault_text of_line.Memory = codes "out of memory"
 
--- what a call's answer tells; each refusal has a value
-abbrev pub answer_text : Told → List ℕ
+-- what a call's answer tells. A refusal of a survey has one value, so that the last case is of none
+abbrev pub answer_text : LifeAnswer → List ℕ
 answer_text (counted n) = codes "taken " ++ decimal n
 answer_text (reported m n s r) = codes "report level " ++ (decimal m ++ (codes " taken " ++ (decimal n ++ (codes " sum " ++ (signed_decimal s ++ (codes " radius " ++ decimal r))))))
 answer_text limited = codes "limited"

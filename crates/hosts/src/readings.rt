@@ -1,4 +1,6 @@
 // Surveys of any types, read with no life in sight.
+ghost use Rattle.std.specs.Prelude.{◌≡◌};
+ghost use Rattle.survey.specs.Surveys.{ReportSteps, ReportIsNear};
 ghost use Rattle.hosts.specs.Readings.{ReportsAgree};
 
 use coats::CoatMap;
@@ -11,9 +13,6 @@ pub struct Reader<'a, P: Net, M: CoatMap> {
 }
 
 impl<'a, P: Net, M: CoatMap> Reader<'a, P, M> {
-    ghost use Rattle.std.specs.Prelude.{◌≡◌};
-    ghost use Rattle.survey.specs.Surveys.{ReportIsNear};
-
     pub fn new(survey: &'a Survey<P, M>) -> Reader<'a, P, M>
         ensures { result.survey.now ≡ survey.now }
     {
@@ -22,7 +21,8 @@ impl<'a, P: Net, M: CoatMap> Reader<'a, P, M> {
 
     /// The survey's report, whose sum is within its radius of the truth.
     pub fn report(&self) -> Report
-        ensures { ReportIsNear self.now.survey.now result }
+        ensures step { ReportSteps self.now.survey.now result }
+        ensures near { ReportIsNear self.now.survey.now result }
     {
         self.survey.report()
     }
@@ -33,9 +33,10 @@ pub fn compare<P: Net, M: CoatMap, Q: Net, K: CoatMap>(
     first: &Survey<P, M>,
     second: &Survey<Q, K>,
 ) -> (Report, Report)
-    ensures { ReportsAgree first.now second.now result.0 result.1 }
+    ensures first { ReportSteps first.now result.0 }
+    ensures second { ReportSteps second.now result.1 }
+    ensures agree { ReportsAgree first.now second.now result.0 result.1 }
 {
     show_agreement(first, second);
     (first.report(), second.report())
 }
-

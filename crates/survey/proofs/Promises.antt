@@ -4,7 +4,7 @@ use Rattle.std.specs.List.Sorted.{IsPermutation}
 use Rattle.radius.specs.Radius.{Near, Agree}
 use Rattle.radius.proofs.Sums.{sums_agree}
 use Rattle.survey.specs.Recipes.{Recipe, IsRecipe}
-use Rattle.survey.specs.Life.{Call, Answer, report, reported, answer, History, State, opening, after, state, Steps, Lived}
+use Rattle.survey.specs.Life.{Call, Answer, report, reported, answer, History, State, opening, after, state, IsStep, Lived}
 use Rattle.survey.specs.Runs.{Runs, opened, answered, barred}
 use Rattle.survey.specs.Promise.{Reported, terms_at, calls, answers, Kept, ComesTo, Continues, Lives}
 use Rattle.survey.proofs.Steps.{step_from, held_is}
@@ -60,9 +60,11 @@ promise o h l =
     record {
       lived = l;
       near = reports_near o h l;
+      is_map = λ x. (held_is o x.earlier (report_lived o h l x).0).map;
       rest = g.0;
       strikes = g.1;
       rest_lived = g.2;
+      rest_state = g.3;
       same = λ k lk e. (again o g.0 g.2 (answers k) k (subst (λ (cs : List Call). Runs o cs (answers k) k) e (run_of o k lk))).0;
       again = again o g.0 g.2;
       agrees = λ o' h' l'. reports_agree o h l o' h' l';
@@ -71,10 +73,10 @@ promise o h l =
 pub begins : (o : Recipe) → IsRecipe o → ComesTo o [] (opening o)
 begins o is = record { promise = promise o [] is; here = refl }
 
-pub continues : (c : Call) (a : Answer) (from to : State) → Steps c a from to → Continues c a from to
+pub continues : (c : Call) (a : Answer) (from to : State) → IsStep c a from to → Continues c a from to
 continues c a from to step o h at =
     record {
-      promise = promise o _ (at.promise.lived, step_from c a from (state o h) at.here step.allowed step.answers);
+      promise = promise o _ (at.promise.lived, step_from c a from to (state o h) at.here step);
       here = ap (after c a) at.here ∙ sym step.leads;
     }
 

@@ -21,15 +21,15 @@ reverse_push f xs x = ap reverse (map_push f xs x) ∙ reverse-append (map f xs)
 
 module _ {P M : Type 0} {nets : Nets P} {maps : Maps M} (g : Gauge P M nets maps) (c : Call P M) where
   steps_live : (a : Option Answer) (to : Gauge P M nets maps) → AskSteps g c (record { gauge = to; answer = a }) → AskLives g c (record { gauge = to; answer = a })
-  steps_live None to bars = record { continues = tt }
-  steps_live (Some a) to step = record { continues = continues (asked nets maps c) (told a) (gauge_state g) (gauge_state to) step }
+  steps_live None to bars = tt
+  steps_live (Some a) to step = continues (asked nets maps c) (told a) (gauge_state g) (gauge_state to) step
 
   pub ask_lives : (r : After P M nets maps) → AskSteps g c r → AskLives g c r
   ask_lives r step = steps_live r.answer r.gauge step
 
 module _ {P M : Type 0} {nets : Nets P} {maps : Maps M} (p : P) (m : M) where
   pub run_none : (s : Survey P M nets maps) → Opens p m s → IsRun p m [] (at.Survey s) []
-  run_none s opens = record { life = []; runs = opened; comes = rw opens.state (begins _ opens.recipe) }
+  run_none s opens = record { life = []; runs = opened; comes = rw opens.state (begins _ opens.is_recipe) }
 
   module _ (cs : List (Call P M)) (rs : List (Option Answer)) (g : Gauge P M nets maps) (c : Call P M) (run : IsRun p m cs g rs) where
     by_answer : (a : Option Answer) (to : Gauge P M nets maps) → Asks g c (record { gauge = to; answer = a }) → AskSteps g c (record { gauge = to; answer = a }) → AskLives g c (record { gauge = to; answer = a }) →
@@ -41,7 +41,7 @@ module _ {P M : Type 0} {nets : Nets P} {maps : Maps M} (p : P) (m : M) where
           comes = rw rule run.comes;
         }
     by_answer (Some b) to rule step lives =
-        let next = lives.continues _ run.life run.comes in
+        let next = lives _ run.life run.comes in
         record {
           life = (asked nets maps c, told b) ∷ run.life;
           runs = rw (reverse_push (asked nets maps) cs c, reverse_push may_tell rs (Some b)) (answered _ _ run.life (asked nets maps c) (told b) run.runs next.promise.lived.1);

@@ -2,7 +2,7 @@
 use Rattle.std.proofs.Common.{◌≡◌, true, [], ◌∷◌, ◌++◌, refl, ap, ◌∙◌, inl, inr}
 use Rattle.std.proofs.lemmas.Bool.{cases_Bool}
 use Rattle.survey.specs.Recipes.{Plan, Map, Recipe}
-use Rattle.survey.specs.Life.{Call, begin, map_page, commit, abandon, Answer, begun, paged, accepts, History, survey, half, full, State, accepted, after, state, Lived}
+use Rattle.survey.specs.Life.{Call, begin, map_page, commit, abandon, Answer, begun, paged, accepts, History, survey, half, full, State, effect_of, after, state, Lived}
 use Rattle.survey.specs.Strikes.{alone, Struck, nothing, stays, goes, changed, lost, left_half, left_full, Strikes, closed, open_half, open_full}
 use Rattle.survey.proofs.Steps.{step_from}
 
@@ -23,7 +23,7 @@ data View (o : Recipe) : History → Type 0 where
 still : (s t : State) → t ≡ s → s.stage ≡ survey → t ≡ record s { stage = survey }
 still s t e here = e ∙ ap (λ x. record s { stage = x }) here
 
-alone_stage : (c : Call) (s : State) → alone c ≡ true → (accepted c s).stage ≡ s.stage
+alone_stage : (c : Call) (s : State) → alone c ≡ true → (effect_of c s).stage ≡ s.stage
 alone_stage (begin p) s e = absurd cc
 alone_stage (map_page t) s e = absurd cc
 alone_stage commit s e = absurd cc
@@ -36,7 +36,7 @@ module _ (o : Recipe) where
   made_again [] h g e l _ = (l, e)
   made_again ((c, a) ∷ es) h g e l (k, step) =
       let x = made_again es h g e l k in
-      ((x.0, step_from c a (state o (es ++ h)) (state o (es ++ g)) x.1 step.allowed step.answers), ap (after c a) x.1)
+      ((x.0, step_from c a (state o (es ++ h)) _ (state o (es ++ g)) x.1 step), ap (after c a) x.1)
 
   same_at : (h : History) → View o h → (state o h).stage ≡ survey → (g : History) × Same o h g
   same_at h (at_survey g s) e = (g, s)
@@ -80,18 +80,22 @@ module _ (o : Recipe) where
   view : (h : History) → Lived o h → View o h
   view [] l = at_survey [] (record { struck = nothing; lived = l; states = refl; here = refl })
   view ((begin p, a) ∷ h) (l, step) =
-      let x = same_at h (view h l) step.allowed.0 in
+      let x = same_at h (view h l) step.allowed in
       rw step.answers (at_half x.0 p x.1)
-  view ((map_page t, a) ∷ h) (l, step) = page_view a t h step.allowed.0.0 step.allowed.0.1 step.answers (view h l)
+  view ((map_page t, a) ∷ h) (l, step) = page_view a t h step.allowed.0 step.allowed.1 step.answers (view h l)
   view ((commit, a) ∷ h) (l, step) = commit_view a h step.allowed.0 step.allowed.1 step.allowed.2 (l, step) (view h l)
   view ((abandon, a) ∷ h) (l, step) = abandon_view a h step.allowed (ap accepts step.answers) (view h l)
   view ((c, a) ∷ h) (l, step) = alone_view c a h refl (l, step) step.allowed (view h l)
 
   -- the struck life
-  struck_of : (h : History) → Lived o h → View o h → (g : History) × Strikes h g × Lived o g
-  struck_of h l (at_survey g s) = (g, closed s.struck, s.lived)
-  struck_of _ l (at_half {h} g p s) = (_, open_half p begun s.struck, (made_again ((begin p, begun) ∷ []) h g s.states s.lived l).0)
-  struck_of _ l (at_full {h} g p t s) = (_, open_full p t begun paged s.struck, (made_again ((map_page t, paged) ∷ (begin p, begun) ∷ []) h g s.states s.lived l).0)
+  struck_of : (h : History) → Lived o h → View o h → (g : History) × Strikes h g × Lived o g × (state o g ≡ state o h)
+  struck_of h l (at_survey g s) = (g, closed s.struck, s.lived, s.states)
+  struck_of _ l (at_half {h} g p s) =
+      let y = made_again ((begin p, begun) ∷ []) h g s.states s.lived l in
+      (_, open_half p begun s.struck, y.0, y.1)
+  struck_of _ l (at_full {h} g p t s) =
+      let y = made_again ((map_page t, paged) ∷ (begin p, begun) ∷ []) h g s.states s.lived l in
+      (_, open_full p t begun paged s.struck, y.0, y.1)
 
-  pub strike : (h : History) → Lived o h → (g : History) × Strikes h g × Lived o g
+  pub strike : (h : History) → Lived o h → (g : History) × Strikes h g × Lived o g × (state o g ≡ state o h)
   strike h l = struck_of h l (view h l)

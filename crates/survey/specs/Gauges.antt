@@ -4,11 +4,11 @@ use Rattle.nets.specs.declared.net.Net.{Ghosts as Nets}
 use Rattle.coats.specs.declared.coat_map.CoatMap.{Ghosts as Maps}
 use Rattle.survey.specs.Recipes.{plan_of, map_of}
 use Rattle.survey.specs.Life as life
-use Rattle.survey.specs.Life.{State, Allowed, Steps}
+use Rattle.survey.specs.Life.{State, Allowed, IsStep}
 use Rattle.survey.specs.Promise.{Continues}
 use Rattle.survey.specs.Refusals.{take_answer, limit_answer, commit_answer}
-use Rattle.survey.specs.Reports.{report_answer}
-use Rattle.survey.specs.Surveys.{survey_state, Takes, Limits, ReportIsNear}
+use Rattle.survey.specs.Reports.{report_answer, IsBounded}
+use Rattle.survey.specs.Surveys.{survey_state, Takes, Keeps, ReportIsNear}
 use Rattle.survey.specs.Changes.{half_state, full_state, Begins, Pages, Commits}
 use Rattle.survey.specs.declared.call.Call.{Call}
 use Rattle.survey.specs.declared.call.Call.TheVariants as call
@@ -39,21 +39,21 @@ asked nets maps call.Commit = life.commit
 asked nets maps call.Abandon = life.abandon
 
 module _ {P M : Type 0} {nets : Nets P} {maps : Maps M} where
-  -- the state that a life has come to whose gauge this is
+  -- the state of a life that has come to this gauge
   abbrev pub gauge_state : Gauge P M nets maps → State
   gauge_state (at.Survey s) = survey_state s
   gauge_state (at.Half c) = half_state c
   gauge_state (at.Full c) = full_state c
 
-  -- the call is barred where the gauge is
+  -- the call is not allowed where the gauge is
   abbrev pub Bars : Gauge P M nets maps → Call P M → Type 0
   Bars g c = Allowed (gauge_state g).stage (asked nets maps c) → ⊥
 
   -- an allowed call does what the call of the survey or the change does
   abbrev pub Does : Gauge P M nets maps → Call P M → Gauge P M nets maps → Answer → Type 0
   Does (at.Survey old) (call.Take k) (at.Survey new) (answer.Taken r) = Takes k old new r
-  Does (at.Survey old) call.Report (at.Survey new) (answer.Reported r) = (new ≡ old) × ReportIsNear old r
-  Does (at.Survey old) (call.Limit l) (at.Survey new) (answer.Limited r) = Limits old new r
+  Does (at.Survey old) call.Report (at.Survey new) (answer.Reported r) = (new ≡ old) × ReportIsNear old r × IsBounded r
+  Does (at.Survey old) (call.Limit l) (at.Survey new) (answer.Limited r) = Keeps old new r
   Does (at.Survey s) (call.Begin p) (at.Half c) answer.Begun = Begins p s c
   Does (at.Half c) (call.MapPage m) (at.Full d) answer.Paged = Pages m c d
   Does (at.Half c) call.Abandon (at.Survey s) answer.Abandoned = s ≡ c.old
@@ -67,8 +67,8 @@ module _ {P M : Type 0} {nets : Nets P} {maps : Maps M} where
 
   -- an allowed call is a step; any other is barred
   abbrev pub AskSteps : Gauge P M nets maps → Call P M → After P M nets maps → Type 0
-  AskSteps g c r = MatchOption r.answer (Bars g c) (λ a. Steps (asked nets maps c) (told a) (gauge_state g) (gauge_state r.gauge))
+  AskSteps g c r = MatchOption r.answer (Bars g c) (λ a. IsStep (asked nets maps c) (told a) (gauge_state g) (gauge_state r.gauge))
 
   -- an allowed call carries on each life that has come to the gauge, with the promise whole
-  pub record AskLives (g : Gauge P M nets maps) (c : Call P M) (r : After P M nets maps) : Type 0 where
-    pub continues : IfSome r.answer (λ a. Continues (asked nets maps c) (told a) (gauge_state g) (gauge_state r.gauge))
+  abbrev pub AskLives : Gauge P M nets maps → Call P M → After P M nets maps → Type 0
+  AskLives g c r = IfSome r.answer (λ a. Continues (asked nets maps c) (told a) (gauge_state g) (gauge_state r.gauge))

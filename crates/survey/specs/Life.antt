@@ -1,5 +1,5 @@
 -- A survey's life: the calls that were made of it with what each answered, the newest first, and what it has come to.
-use Rattle.std.specs.Prelude.{◌≡◌, ℕ, ◌+◌, Bool, true, false, if◌then◌else◌, List, [], ◌∷◌, ℤ, ◌==◌, nat_lt}
+use Rattle.std.specs.Prelude.{⊤, ◌≡◌, ℕ, ◌+◌, Bool, true, false, if◌then◌else◌, List, [], ◌∷◌, ℤ, ◌==◌, nat_lt}
 use Rattle.nets.specs.Refusals.{Told, refused}
 use Rattle.coats.specs.Terms.{IsMap}
 use Rattle.survey.specs.Recipes.{Plan, Map, Recipe, IsPlan, IsRecipe, left, coat_sum, cost, radius}
@@ -41,7 +41,7 @@ pub data Stage : Type 0 where
 -- what a history has come to
 pub record State : Type 0 where
   pub stage : Stage
-  -- the recipe of opening, or of the last accepted commit
+  -- the recipe of opening, or of the last effect_of commit
   pub held : Recipe
   -- L: that of opening, or of the last accepted limit
   pub limit : ℕ
@@ -63,18 +63,18 @@ offered old (half p) = old
 offered old (full p t) = record { plan = p; map = t }
 
 -- what an accepted call makes of it
-abbrev pub accepted : Call → State → State
-accepted (take k) s = record s { taken = s.taken + k }
-accepted (set_limit l) s = record s { limit = l }
-accepted (begin p) s = record s { stage = half p }
-accepted (map_page t) s = record s { stage = with_map t s.stage }
-accepted commit s = record s { stage = survey; held = offered s.held s.stage; taken = 0 }
-accepted abandon s = record s { stage = survey }
-accepted report s = s
+abbrev pub effect_of : Call → State → State
+effect_of (take k) s = record s { taken = s.taken + k }
+effect_of (set_limit l) s = record s { limit = l }
+effect_of (begin p) s = record s { stage = half p }
+effect_of (map_page t) s = record s { stage = with_map t s.stage }
+effect_of commit s = record s { stage = survey; held = offered s.held s.stage; taken = 0 }
+effect_of abandon s = record s { stage = survey }
+effect_of report s = s
 
 -- a refused call leaves no change under way, and all else as it was
 abbrev pub after : Call → Answer → State → State
-after c a s = if accepts a then accepted c s else record s { stage = survey }
+after c a s = if accepts a then effect_of c s else record s { stage = survey }
 
 abbrev pub state : Recipe → History → State
 state o [] = opening o
@@ -103,21 +103,27 @@ answer s (map_page t) = paged
 answer s commit = on_commit (offered s.held s.stage) s.limit
 answer s abandon = abandoned
 
--- where a call is allowed; a page is a plan or a map
+-- where a call is allowed
 abbrev pub Allowed : Stage → Call → Type 0
-Allowed s (begin p) = (s ≡ survey) × IsPlan p
-Allowed s (map_page t) = ((p : Plan) × (s ≡ half p)) × IsMap t.terms
+Allowed s (map_page t) = (p : Plan) × (s ≡ half p)
 Allowed s commit = (p : Plan) × (t : Map) × (s ≡ full p t)
 Allowed s abandon = s ≡ survey → ⊥
 Allowed s _ = s ≡ survey
 
+-- the page that a call brings is a plan, or a map
+abbrev pub BringsPage : Call → Type 0
+BringsPage (begin p) = IsPlan p
+BringsPage (map_page t) = IsMap t.terms
+BringsPage _ = ⊤
+
 -- a call is allowed, is answered by the rules, and leads from one state to another
-pub record Steps (c : Call) (a : Answer) (from to : State) : Type 0 where
+pub record IsStep (c : Call) (a : Answer) (from to : State) : Type 0 where
   pub allowed : Allowed from.stage c
+  pub page : BringsPage c
   pub answers : a ≡ answer from c
   pub leads : to ≡ after c a from
 
 -- a life from the opening on the recipe o: one call after another
 abbrev pub Lived : (o : Recipe) → History → Type 0
 Lived o [] = IsRecipe o
-Lived o ((c, a) ∷ h) = Lived o h × Steps c a (state o h) (state o ((c, a) ∷ h))
+Lived o ((c, a) ∷ h) = Lived o h × IsStep c a (state o h) (state o ((c, a) ∷ h))

@@ -4,9 +4,9 @@ use Rattle.std.specs.declared.alloc.AllocError.{AllocError}
 use Rattle.std.specs.declared.alloc.Global.{Global}
 use Rattle.nets.specs.declared.net.Net.{Ghosts as Nets}
 use Rattle.coats.specs.declared.coat_map.CoatMap.{Ghosts as Maps}
-use Rattle.survey.specs.Recipes.{Recipe, recipe_of}
+use Rattle.survey.specs.Recipes.{recipe_of}
 use Rattle.survey.specs.Life as life
-use Rattle.survey.specs.Life.{History, State}
+use Rattle.survey.specs.Life.{History}
 use Rattle.survey.specs.Runs.{Runs}
 use Rattle.survey.specs.Promise.{ComesTo}
 use Rattle.survey.specs.Gauges.{asked, told, gauge_state}
@@ -19,21 +19,18 @@ abbrev pub may_tell : Option Answer → Option life.Answer
 may_tell None = None
 may_tell (Some a) = Some (told a)
 
--- the life of calls, which keeps the promise and has come to a state
-pub record Ran (o : Recipe) (cs : List life.Call) (rs : List (Option life.Answer)) (s : State) : Type 0 where
-  pub life : History
-  pub runs : Runs o (reverse cs) (reverse rs) life
-  pub comes : ComesTo o life s
-
 module _ {P M : Type 0} {nets : Nets P} {maps : Maps M} where
-  -- the gauge and the answers, in order, of a log
-  abbrev pub IsRun : P → M → List (Call P M) → Gauge P M nets maps → List (Option Answer) → Type 0
-  IsRun p m cs g rs = Ran (recipe_of nets maps p m) (map (asked nets maps) cs) (map may_tell rs) (gauge_state g)
+  -- calls were answered so, in order, and the gauge is where their life has come to, with the promise
+  pub record IsRun (p : P) (m : M) (cs : List (Call P M)) (g : Gauge P M nets maps) (rs : List (Option Answer)) : Type 0 where
+    pub life : History
+    pub runs : Runs (recipe_of nets maps p m) (reverse (map (asked nets maps) cs)) (reverse (map may_tell rs)) life
+    pub comes : ComesTo (recipe_of nets maps p m) life (gauge_state g)
 
-  -- unless memory for the answers is wanting, which is said of no empty log
+  -- a run, or want of memory for the answers of a log that is not empty
   abbrev pub RunsLog : P → M → List (Call P M) → Result (Run P M nets maps) AllocError → Type 0
   RunsLog p m cs r = MatchResult r (λ run. IsRun p m cs run.gauge (vec_items run.answers)) (λ _. 0 < length cs)
 
 module _ {P M : Type 0} (nets : Nets P) (maps : Maps M) where
+  -- the answers of a run
   abbrev pub Replays : P → M → List (Call P M) → Result (Vec (Option Answer) Global) AllocError → Type 0
   Replays p m cs r = MatchResult r (λ v. (g : Gauge P M nets maps) × IsRun p m cs g (vec_items v)) (λ _. 0 < length cs)

@@ -2,9 +2,10 @@
 use Rattle.std.specs.Prelude.{◌≡◌, ℕ, List, [], ◌∷◌, ◌++◌, map, ℤ, Some, Option}
 use Rattle.std.specs.List.Sorted.{IsPermutation}
 use Rattle.coats.specs.declared.term.Term.{Term}
+use Rattle.coats.specs.Terms.{IsMap}
 use Rattle.radius.specs.Radius.{Near, Agree}
 use Rattle.survey.specs.Recipes.{Recipe, IsRecipe}
-use Rattle.survey.specs.Life.{Call, Answer, report, reported, History, State, opening, state, Steps, Lived}
+use Rattle.survey.specs.Life.{Call, Answer, report, reported, History, State, opening, state, IsStep, Lived}
 use Rattle.survey.specs.Runs.{Runs}
 use Rattle.survey.specs.Strikes.{Strikes}
 
@@ -31,10 +32,14 @@ pub record Promise (o : Recipe) (h : History) : Type 0 where
   pub lived : Lived o h
   -- no report misses the true value
   pub near : (x : Reported o h) → Near x.m (terms_at x) x.s x.r
-  -- what was refused or given up leaves no trace: the rest is a life with the same answers
+  -- what is held at a report is a map
+  pub is_map : (x : Reported o h) → IsMap (terms_at x)
+  -- what was refused or given up leaves no trace: the rest is a life with the same answers, and has come to
+  -- the same state
   pub rest : History
   pub strikes : Strikes h rest
   pub rest_lived : Lived o rest
+  pub rest_state : state o rest ≡ state o h
   -- a life with the calls of the rest has its answers too
   pub same : (g : History) → Lived o g → calls g ≡ calls rest → g ≡ rest
   -- the calls of the rest, made again, are all allowed and have its answers
@@ -59,4 +64,4 @@ Continues c a from to = (o : Recipe) (h : History) → ComesTo o h from → Come
 -- a life begins as it is opened, and each step carries it on
 pub record Lives : Type 0 where
   pub begins : (o : Recipe) → IsRecipe o → ComesTo o [] (opening o)
-  pub continues : (c : Call) (a : Answer) (from to : State) → Steps c a from to → Continues c a from to
+  pub continues : (c : Call) (a : Answer) (from to : State) → IsStep c a from to → Continues c a from to

@@ -5,7 +5,7 @@ use Rattle.nets.specs.declared.net.Net.{Ghosts as Nets}
 use Rattle.coats.specs.declared.coat_map.CoatMap.{Ghosts as Maps}
 use Rattle.radius.specs.Radius.{Near, Agree}
 use Rattle.survey.specs.Recipes.{Recipe, IsRecipe, recipe_of, coats, radius}
-use Rattle.survey.specs.Life.{take, report, set_limit, survey, State, opening, Steps}
+use Rattle.survey.specs.Life.{take, report, set_limit, survey, State, opening, IsStep}
 use Rattle.survey.specs.Refusals.{take_answer, limit_answer}
 use Rattle.survey.specs.Reports.{report_answer}
 use Rattle.survey.specs.declared.faults.TakeFault.{TakeFault}
@@ -18,7 +18,7 @@ module _ {P M : Type 0} {nets : Nets P} {maps : Maps M} where
   abbrev pub recipe : Survey P M nets maps → Recipe
   recipe s = recipe_of nets maps s.plan s.map
 
-  -- n
+  -- n, as contracts say it
   abbrev pub count_of : Survey P M nets maps → ℕ
   count_of s = s.count
 
@@ -26,7 +26,7 @@ module _ {P M : Type 0} {nets : Nets P} {maps : Maps M} where
   abbrev pub radius_of : Survey P M nets maps → ℕ
   radius_of s = radius (recipe s) (count_of s)
 
-  -- the state that a life has come to whose survey this is
+  -- the state of a life that has come to this survey
   abbrev pub survey_state : Survey P M nets maps → State
   survey_state s = record { stage = survey; held = recipe s; limit = s.limit; taken = count_of s }
 
@@ -37,40 +37,40 @@ module _ {P M : Type 0} {nets : Nets P} {maps : Maps M} where
 
   -- a survey as it is opened
   pub record Opens (p : P) (m : M) (s : Survey P M nets maps) : Type 0 where
-    pub recipe : IsRecipe (recipe_of nets maps p m)
+    pub is_recipe : IsRecipe (recipe_of nets maps p m)
     pub state : survey_state s ≡ opening (recipe_of nets maps p m)
     pub pages : Has p m s
 
-  -- accepted, a take adds the coat at k more places of its plan; refused, it leaves the survey as it was
+  -- where a call was accepted, the plan and the map are kept; where it was refused, the survey is as it was
+  abbrev pub Keeps : {X E : Type 0} (old new : Survey P M nets maps) → Result X E → Type 0
+  Keeps old new r = MatchResult r (λ _. Has old.plan old.map new) (λ _. new ≡ old)
+
+  -- accepted, a take adds the coat at the next k places
   pub record Takes (k : ℕ) (old new : Survey P M nets maps) (r : Result ℕ TakeFault) : Type 0 where
-    pub after : MatchResult r (λ _. Has old.plan old.map new) (λ _. new ≡ old)
+    pub keeps : Keeps old new r
     pub adds : IfOk r (λ _. new.sum ≡ old.sum +ℤ coats (recipe old) (count_of old) k)
 
   abbrev pub TakeSteps : (k : ℕ) (old new : Survey P M nets maps) → Result ℕ TakeFault → Type 0
-  TakeSteps k old new r = Steps (take k) (take_answer r) (survey_state old) (survey_state new)
+  TakeSteps k old new r = IsStep (take k) (take_answer r) (survey_state old) (survey_state new)
 
   -- a report tells m, n, S and R
   abbrev pub ReportSteps : Survey P M nets maps → Report → Type 0
-  ReportSteps s r = Steps report (report_answer r) (survey_state s) (survey_state s)
+  ReportSteps s r = IsStep report (report_answer r) (survey_state s) (survey_state s)
 
   -- and S is within R of the truth
   abbrev pub ReportIsNear : Survey P M nets maps → Report → Type 0
   ReportIsNear s r = Near r.level (recipe s).map.terms r.sum r.radius
 
-  -- accepted, a limit keeps the plan and the map; refused, it leaves the survey as it was
-  abbrev pub Limits : {X : Type 0} (old new : Survey P M nets maps) → Result X LimitFault → Type 0
-  Limits old new r = MatchResult r (λ _. Has old.plan old.map new) (λ _. new ≡ old)
-
   abbrev pub LimitSteps : {X : Type 0} (l : ℕ) (old new : Survey P M nets maps) → Result X LimitFault → Type 0
-  LimitSteps l old new r = Steps (set_limit l) (limit_answer r) (survey_state old) (survey_state new)
+  LimitSteps l old new r = IsStep (set_limit l) (limit_answer r) (survey_state old) (survey_state new)
 
   -- its sum is within its radius of the truth
   abbrev pub IsNear : Survey P M nets maps → Type 0
   IsNear s = Near (recipe s).plan.level (recipe s).map.terms s.sum (radius_of s)
 
 -- two surveys of any types agree within their radii where their maps have the same terms up to order
-abbrev pub IfSameAgree : {P M Q K : Type 0} {nets : Nets P} {maps : Maps M} {nets' : Nets Q} {maps' : Maps K} →
+abbrev pub SurveysAgree : {P M Q K : Type 0} {nets : Nets P} {maps : Maps M} {nets' : Nets Q} {maps' : Maps K} →
     Survey P M nets maps → Survey Q K nets' maps' → Type 0
-IfSameAgree s t =
+SurveysAgree s t =
     IsPermutation (recipe s).map.terms (recipe t).map.terms →
     Agree (recipe s).plan.level (recipe t).plan.level s.sum t.sum (radius_of s) (radius_of t)

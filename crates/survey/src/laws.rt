@@ -1,6 +1,6 @@
 // What every survey and every life keeps. The functions do nothing when they are run; their contracts are the laws.
 ghost use Rattle.survey.specs.Promise.{Kept, Lives};
-ghost use Rattle.survey.specs.Surveys.{IsNear, IfSameAgree};
+ghost use Rattle.survey.specs.Surveys.{IsNear, SurveysAgree};
 
 use crate::survey::Survey;
 use coats::CoatMap;
@@ -25,5 +25,5 @@ pub fn show_agreement<P: Net, M: CoatMap, Q: Net, K: CoatMap>(
     first: &Survey<P, M>,
     second: &Survey<Q, K>,
 )
-    ensures { IfSameAgree first.now second.now }
+    ensures { SurveysAgree first.now second.now }
 {}

@@ -11,7 +11,8 @@ use nets::Net;
 pub(crate) fn coats<P: Net, M: CoatMap>(plan: &P, map: &M, first: u32, k: u32) -> i64
     requires { first + k ≤ 2 ^ P.level plan.now }
     ensures value { result ≡ coats_of (recipe_of P.Net M.CoatMap plan.now map.now) first k }
-    ensures joined { coat_sum (recipe_of P.Net M.CoatMap plan.now map.now) (first + k) ≡ coat_sum (recipe_of P.Net M.CoatMap plan.now map.now) first +ℤ result }
+    ensures joined { coat_sum (recipe_of P.Net M.CoatMap plan.now map.now) (first + k)
+        ≡ coat_sum (recipe_of P.Net M.CoatMap plan.now map.now) first +ℤ result }
     ensures bound { unsigned_abs result ≤ 16384 * k }
 {
     plan.show_net();
@@ -24,7 +25,8 @@ pub(crate) fn coats<P: Net, M: CoatMap>(plan: &P, map: &M, first: u32, k: u32) -
 
 // The coat at the place of an index, if there is one.
 fn coat_at<P: Net, M: CoatMap>(plan: &P, map: &M, i: u32) -> i32
-    ensures value { i < 2 ^ P.level plan.now → result ≡ coated (M.terms map.now) (slice_index_or (P.places plan.now) i (0, 0)) }
+    ensures value { i < 2 ^ P.level plan.now →
+        result ≡ coated (M.terms map.now) (slice_index_or (P.places plan.now) i (0, 0)) }
     ensures bound { unsigned_abs result ≤ 16384 }
 {
     plan.place(i).map_or(0, |place| map.coat(place))

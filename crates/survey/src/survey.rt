@@ -25,8 +25,8 @@ pub struct Survey<P: Net, M: CoatMap> {
     pub(crate) count: u32,
     pub(crate) sum: i64,
     pub(crate) limit: u64,
-    pub ghost net: { IsNet (P.level plan) (P.places plan) },
-    pub ghost terms: { IsMap (M.terms map) },
+    pub ghost is_net: { IsNet (P.level plan) (P.places plan) },
+    pub ghost is_map: { IsMap (M.terms map) },
     pub ghost few: { count ≤ 2 ^ P.level plan },
     pub ghost small: { unsigned_abs sum ≤ 16384 * count },
     pub ghost sums: { sum ≡ added (M.terms map) (take count (P.places plan)) },
@@ -34,7 +34,7 @@ pub struct Survey<P: Net, M: CoatMap> {
 
 impl<P: Net, M: CoatMap> Survey<P, M> {
     ghost use Rattle.survey.specs.Recipes.{cost, left as unread};
-    ghost use Rattle.survey.specs.Surveys.{recipe, count_of, Opens, Takes, TakeSteps, ReportSteps, ReportIsNear, Limits, LimitSteps};
+    ghost use Rattle.survey.specs.Surveys.{recipe, count_of, Opens, Takes, TakeSteps, ReportSteps, ReportIsNear, Keeps, LimitSteps};
     ghost use Rattle.survey.specs.Reports.{IsBounded};
     ghost use Rattle.survey.specs.Changes.{Begins, BeginSteps};
 
@@ -93,7 +93,7 @@ impl<P: Net, M: CoatMap> Survey<P, M> {
     /// # Errors
     /// 23 where the depths of the survey's own recipe cost more.
     pub fn set_limit(&mut self, limit: u64) -> Result<(), LimitFault>
-        ensures rule { Limits self.old self.new result }
+        ensures rule { Keeps self.old self.new result }
         ensures step { LimitSteps limit self.old self.new result }
     {
         let cost = self.depth_cost();

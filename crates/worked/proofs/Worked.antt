@@ -13,7 +13,7 @@ use Rattle.sequences.proofs.AreNets.{hammersley_is_net}
 use Rattle.coats.specs.Terms.{IsMap}
 use Rattle.boxes.specs.Rows.{boxes_terms}
 use Rattle.survey.specs.Recipes.{IsRecipe}
-use Rattle.survey.specs.Life.{Call, Answer, answer, State, after, Allowed, Steps, Lived}
+use Rattle.survey.specs.Life.{Call, Answer, answer, State, after, Allowed, BringsPage, IsStep, Lived}
 use Rattle.worked.specs.Figures.{Figures, quarter, quarter_map, grid, plan, opening, two_takes, refused_change}
 
 past : (r : Result Place PlaceFault) → Placed 2 (hammersley_net 2) 4 r → MatchResult r (λ _. ⊥) (λ e. place_told e ≡ refused 11 (4 ∷ []))
@@ -52,14 +52,14 @@ recipe : IsRecipe opening
 recipe = record { plan = hammersley_is_net 2 (omega arith); map = quarter_is_map }
 
 -- a call, allowed and answered by the rules
-step : {c : Call} {a : Answer} {s : State} → Allowed s.stage c → a ≡ answer s c → Steps c a s (after c a s)
-step ok at = record { allowed = ok; answers = at; leads = refl }
+step : {c : Call} {a : Answer} {s : State} → Allowed s.stage c → BringsPage c → a ≡ answer s c → IsStep c a s (after c a s)
+step ok page at = record { allowed = ok; page = page; answers = at; leads = refl }
 
 takes : Lived opening two_takes
-takes = ((((recipe, step refl refl), step refl refl), step refl refl), step refl refl)
+takes = ((((recipe, step refl tt refl), step refl tt refl), step refl tt refl), step refl tt refl)
 
 change : Lived opening refused_change
-change = (((((((recipe, step refl refl), step refl refl), step refl refl), step (refl, hammersley_is_net 3 (omega arith)) refl), step ((plan 3, refl), quarter_is_map) refl), step (plan 3, quarter_map, refl) refl), step refl refl)
+change = (((((((recipe, step refl tt refl), step refl tt refl), step refl tt refl), step refl (hammersley_is_net 3 (omega arith)) refl), step (plan 3, refl) quarter_is_map refl), step (plan 3, quarter_map, refl) tt refl), step refl tt refl)
 
 pub figures : Figures
 figures = record {
