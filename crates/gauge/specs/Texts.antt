@@ -32,7 +32,7 @@ fault_text of_line.PlanKind = codes "another kind of plan"
 fault_text of_line.MapKind = codes "another kind of map"
 fault_text of_line.Memory = codes "out of memory"
 
--- what a call's answer tells. A refusal of a survey has one value, so that the last case is of none
+-- what a call's answer tells. Each refusal of a survey has one value, so the last case does not occur
 abbrev pub answer_text : LifeAnswer → List ℕ
 answer_text (counted n) = codes "taken " ++ decimal n
 answer_text (reported m n s r) = codes "report level " ++ (decimal m ++ (codes " taken " ++ (decimal n ++ (codes " sum " ++ (signed_decimal s ++ (codes " radius " ++ decimal r))))))

@@ -1,4 +1,4 @@
--- IsStep lead from lives to lives, and from sound states to sound ones.
+-- A step is made again where the state is the same, and leads from sound states to sound ones.
 use Rattle.std.proofs.Common.{◌≡◌, [], ◌∷◌, refl}
 use Rattle.std.proofs.lemmas.Bool.{cond_both}
 use Rattle.coats.specs.Terms.{IsMap}
