@@ -1,2 +1,3 @@
 mod Flags
 pub mod Accepts
+pub mod Asked

@@ -1,4 +1,4 @@
+pub mod Bytes
 pub mod Refusals
 pub mod Audits
 pub mod Loads
-pub mod Texts

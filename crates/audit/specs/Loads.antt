@@ -1,27 +1,27 @@
 -- What loading a point list answers, and what the list then holds.
 use Rattle.std.specs.Prelude.{◌≡◌, ℕ, ◌*◌, ◌^◌, ◌⊎◌, List, length, Ok, Err, vec_items, Result}
-use Rattle.nets.specs.Bytes.{laid}
+use Rattle.audit.specs.Bytes.{places_in}
 use Rattle.nets.specs.Places.{IsNet}
-use Rattle.nets.specs.Refusals.{Told, no_memory}
+use Rattle.refusals.specs.Told.{Told, no_memory}
 use Rattle.audit.specs.declared.faults.LoadFault.{LoadFault}
-use Rattle.audit.specs.declared.points.PointList.{PointList}
-use Rattle.audit.specs.Audits.{Examined, RefusedBytes}
+use Rattle.audit.specs.declared.point_list.PointList.{PointList}
+use Rattle.audit.specs.Audits.{IsExamined, RefusesBytes}
 use Rattle.audit.specs.Refusals.{load_told}
 
 -- n intervals were examined, and the list is the places that the bytes lay down
-pub record Holds (bytes : List ℕ) (n : ℕ) (list : PointList) : Type 0 where
+pub record LoadsPlaces (bytes : List ℕ) (n : ℕ) (list : PointList) : Type 0 where
   pub long : length bytes ≡ 4 * 2 ^ list.level.m
-  pub places : vec_items list.places ≡ laid bytes
-  pub examined : Examined list.level.m (laid bytes) n
+  pub places : vec_items list.places ≡ places_in bytes
+  pub examined : IsExamined list.level.m (places_in bytes) n
 
 -- want of memory, which is told of nets alone
-pub record NoMemory (bytes : List ℕ) (t : Told) : Type 0 where
+pub record WantsMemory (bytes : List ℕ) (t : Told) : Type 0 where
   pub m : ℕ
   pub long : length bytes ≡ 4 * 2 ^ m
-  pub net : IsNet m (laid bytes)
+  pub net : IsNet m (places_in bytes)
   pub tells : t ≡ no_memory
 
 -- loading replaces the list by an accepted one, or else leaves it as it was
-abbrev pub Loaded : (bytes : List ℕ) (old new : PointList) → Result ℕ LoadFault → Type 0
-Loaded bytes old new (Ok n) = Holds bytes n new
-Loaded bytes old new (Err e) = (RefusedBytes bytes (load_told e) ⊎ NoMemory bytes (load_told e)) × (new ≡ old)
+abbrev pub Loads : (bytes : List ℕ) (old new : PointList) → Result ℕ LoadFault → Type 0
+Loads bytes old new (Ok n) = LoadsPlaces bytes n new
+Loads bytes old new (Err e) = (RefusesBytes bytes (load_told e) ⊎ WantsMemory bytes (load_told e)) × (new ≡ old)

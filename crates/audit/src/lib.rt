@@ -1,14 +1,16 @@
-// The audit of lists of places and of plans, and the plan that is a customer's list.
+//! The audit of lists of places, of bytes and of plans, and the plan that is a customer's list.
 #![tactic(auto)]
 
 pub mod audits;
 mod examination;
 pub mod faults;
-pub mod planned;
-pub mod points;
+pub mod net_bytes;
+pub mod place_bytes;
+pub mod point_list;
 mod sources;
 
-pub use audits::{Accepted, audit, audit_bytes};
+pub use audits::{audit, audit_plan};
 pub use faults::{AuditFault, LoadFault, NotNet};
-pub use planned::audit_plan;
-pub use points::PointList;
+pub use net_bytes::NetBytes;
+pub use place_bytes::PlaceBytes;
+pub use point_list::PointList;

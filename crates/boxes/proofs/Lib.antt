@@ -1,1 +1,2 @@
 mod Corners
+mod LaidRows

@@ -1,9 +1,9 @@
-// Box maps: weights on boxes, added.
+//! Box maps: weights on boxes, added.
 #![tactic(auto)]
 
-pub mod calls;
-pub mod map;
+pub mod boxes;
+mod columns;
 pub mod row;
 
-pub use map::{Boxes, MOST_BOXES};
+pub use boxes::{Boxes, MOST_BOXES};
 pub use row::{BoxRow, show_box};

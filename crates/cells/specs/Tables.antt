@@ -4,5 +4,5 @@ use Rattle.cells.specs.declared.table.Table.{Table}
 use Rattle.cells.specs.Cells.{cell}
 
 -- the value that it holds for row r and column s
-abbrev pub held : Table → ℕ → ℕ → ℤ
-held t = cell t.values
+abbrev pub values_of : Table → ℕ → ℕ → ℤ
+values_of t = cell t.values

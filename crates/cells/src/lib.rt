@@ -1,8 +1,7 @@
-// Cell maps: a value for each of 8 by 8 squares.
+//! Cell maps: a value for each of 8 by 8 squares.
 #![tactic(auto)]
 
-pub mod calls;
-pub mod map;
+pub mod cells;
 mod table;
 
-pub use map::Cells;
+pub use cells::{CELL_SIDE, Cells, show_cells};

@@ -10,7 +10,7 @@ use Rattle.std.proofs.lemmas.List.Sorted.{sum_by-IsPermutation}
 use Rattle.std.proofs.lemmas.List.Sums.{sum_by-cons, sum_by-append}
 use Rattle.nets.specs.Places.{Place}
 use Rattle.coats.specs.declared.term.Term.{Term}
-use Rattle.coats.specs.Terms.{sum_of, boxed, coat, weight}
+use Rattle.coats.specs.Terms.{sum_of, is_boxed, coat_of, weight_of}
 
 module _ {X : Type 0} (f : X → ℤ) where
   pub sum_of_append : (xs ys : List X) → sum_of f (xs ++ ys) ≡ sum_of f xs +ℤ sum_of f ys
@@ -60,9 +60,9 @@ kept_small : (b : Bool) (w : ℤ) → nat_abs (cond b w (pos 0)) ≤ nat_abs w
 kept_small true w = omega arith
 kept_small false w = omega arith
 
-pub coat_small : (ts : List Term) (p : Place) → nat_abs (coat ts p) ≤ weight ts
+pub coat_small : (ts : List Term) (p : Place) → nat_abs (coat_of ts p) ≤ weight_of ts
 coat_small [] p = omega arith
-coat_small (t ∷ ts) p = omega (arith, ints, kept_small (boxed t.u t.v p) t.w, coat_small ts p, sum_by-cons (λ (t : Term). nat_abs t.w) t ts)
+coat_small (t ∷ ts) p = omega (arith, ints, kept_small (is_boxed t.u t.v p) t.w, coat_small ts p, sum_by-cons (λ (t : Term). nat_abs t.w) t ts)
 
-pub coat_light : (ts : List Term) (p : Place) → weight ts ≤ 16384 → nat_abs (coat ts p) ≤ 16384
+pub coat_light : (ts : List Term) (p : Place) → weight_of ts ≤ 16384 → nat_abs (coat_of ts p) ≤ 16384
 coat_light ts p h = omega (arith, coat_small ts p)

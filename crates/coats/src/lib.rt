@@ -1,4 +1,4 @@
-// Coat maps: what coat to expect at each place of a panel.
+//! Coat maps: what coat to expect at each place of a panel.
 #![tactic(auto)]
 
 pub mod checks;
@@ -7,7 +7,7 @@ pub mod faults;
 pub mod order;
 pub mod term;
 
-pub use checks::{Bounded, check_weight, first_out, is_bound};
+pub use checks::{Bounded, HEAVIEST, PANEL_SIDE, check_weight, first_out, is_bound};
 pub use coat_map::CoatMap;
 pub use faults::MapFault;
 pub use order::show_same;

@@ -1,53 +1,56 @@
 -- The texts that are printed.
-use Rattle.std.specs.Prelude.{ℕ, List, [], ◌∷◌, ◌++◌, codes, decimal}
+use Rattle.std.specs.Prelude.{ℕ, List, [], ◌∷◌, Ok, Err, codes, decimal}
 use Rattle.std.specs.Fmt.{signed_decimal}
-use Rattle.nets.specs.Refusals.{refused}
-use Rattle.audit.specs.Texts.{audit_text}
-use Rattle.coats.specs.declared.faults.MapFault.TheVariants as of_map
-use Rattle.jobs.specs.Refusals.{refusal_told}
-use Rattle.jobs.specs.Texts.{told_text}
-use Rattle.survey.specs.Life.{counted, reported, limited, begun, paged, committed, abandoned, refusal}
-use Rattle.survey.specs.Life.{Answer as LifeAnswer}
-use Rattle.survey.specs.Gauges.{told}
-use Rattle.gauge.specs.declared.faults.Unreadable.{Unreadable}
-use Rattle.gauge.specs.declared.faults.Unreadable.TheVariants as of_line
-use Rattle.gauge.specs.declared.answers.Reply.{Reply}
-use Rattle.gauge.specs.declared.answers.Reply.TheVariants as of_reply
+use Rattle.refusals.specs.Texts.{text_of}
+use Rattle.nets.specs.Refusals.{level_text}
+use Rattle.audit.specs.Refusals.{audit_text}
+use Rattle.coats.specs.Refusals.{map_text}
+use Rattle.jobs.specs.Refusals.{job_told, told_text}
+use Rattle.survey.specs.Refusals.{take_text, limit_text, commit_text}
+use Rattle.survey.specs.declared.call.Answer.{Answer}
+use Rattle.survey.specs.declared.call.Answer.TheVariants.{Taken, Reported, Limited, Begun, Paged, Committed, Abandoned}
+use Rattle.gauge.specs.declared.unreadable.Unreadable.{Unreadable}
+use Rattle.gauge.specs.declared.unreadable.Unreadable.TheVariants.{TooLong, Unknown, NotOpen, Open, Words, File, Job, Level, Points, Map, PlanKind, MapKind, Memory}
+use Rattle.gauge.specs.declared.reply.Reply.{Reply}
+use Rattle.gauge.specs.declared.reply.Reply.TheVariants as of_reply
 
 -- why a line makes no call
 abbrev pub fault_text : Unreadable → List ℕ
-fault_text of_line.TooLong = codes "more than 65535 bytes"
-fault_text of_line.Unknown = codes "unknown command"
-fault_text of_line.NotOpen = codes "no recipe is open"
-fault_text of_line.Open = codes "a recipe is open"
-fault_text of_line.Words = codes "cannot read its words"
-fault_text of_line.File = codes "cannot read the file"
-fault_text (of_line.Job r) = told_text (refusal_told r)
-fault_text (of_line.Level m) = codes "refused 4 level " ++ decimal m
-fault_text (of_line.Points e) = audit_text e
-fault_text (of_line.Map of_map.Count) = codes "refused 7"
-fault_text (of_line.Map (of_map.Row i)) = codes "refused 8 row " ++ decimal i
-fault_text (of_line.Map of_map.Weight) = codes "refused 9"
-fault_text of_line.PlanKind = codes "another kind of plan"
-fault_text of_line.MapKind = codes "another kind of map"
-fault_text of_line.Memory = codes "out of memory"
+fault_text TooLong = codes "more than 65535 bytes"
+fault_text Unknown = codes "unknown command"
+fault_text NotOpen = codes "no recipe is open"
+fault_text Open = codes "a recipe is open"
+fault_text Words = codes "cannot read its words"
+fault_text File = codes "cannot read the file"
+fault_text (Job e) = told_text (job_told e)
+fault_text (Level e) = level_text e
+fault_text (Points e) = audit_text e
+fault_text (Map e) = map_text e
+fault_text PlanKind = codes "another kind of plan"
+fault_text MapKind = codes "another kind of map"
+fault_text Memory = codes "out of memory"
 
--- what a call's answer tells. Each refusal of a survey has one value, so the last case does not occur
-abbrev pub answer_text : LifeAnswer → List ℕ
-answer_text (counted n) = codes "taken " ++ decimal n
-answer_text (reported m n s r) = codes "report level " ++ (decimal m ++ (codes " taken " ++ (decimal n ++ (codes " sum " ++ (signed_decimal s ++ (codes " radius " ++ decimal r))))))
-answer_text limited = codes "limited"
-answer_text begun = codes "begun"
-answer_text paged = codes "paged"
-answer_text abandoned = codes "abandoned"
-answer_text committed = codes "committed"
-answer_text (refusal (refused n (v ∷ _))) = codes "refused " ++ (decimal n ++ (codes " place " ++ decimal v))
-answer_text (refusal _) = []
+-- what a call's answer tells
+abbrev pub answer_text : Answer → List ℕ
+answer_text (Taken (Ok n)) = text_of (codes "taken " ∷ decimal n ∷ [])
+answer_text (Taken (Err e)) = take_text e
+answer_text (Reported r) =
+    text_of (
+    codes "report level " ∷ decimal r.level ∷ codes " taken " ∷ decimal r.count
+    ∷ codes " sum " ∷ signed_decimal r.sum ∷ codes " radius " ∷ decimal r.radius ∷ []
+    )
+answer_text (Limited (Ok _)) = codes "limited"
+answer_text (Limited (Err e)) = limit_text e
+answer_text Begun = codes "begun"
+answer_text Paged = codes "paged"
+answer_text (Committed (Ok _)) = codes "committed"
+answer_text (Committed (Err e)) = commit_text e
+answer_text Abandoned = codes "abandoned"
 
 -- what a line is answered
-abbrev pub text : Reply → List ℕ
-text of_reply.Plan = codes "plan"
-text of_reply.Opened = codes "opened"
-text (of_reply.Answer a) = answer_text (told a)
-text of_reply.NotAllowed = codes "not allowed"
-text (of_reply.Wrong line e) = codes "line " ++ (decimal line ++ (codes ": " ++ fault_text e))
+abbrev pub reply_text : Reply → List ℕ
+reply_text of_reply.Plan = codes "plan"
+reply_text of_reply.Opened = codes "opened"
+reply_text (of_reply.Answer a) = answer_text a
+reply_text of_reply.NotAllowed = codes "not allowed"
+reply_text (of_reply.Wrong line e) = text_of (codes "line " ∷ decimal line ∷ codes ": " ∷ fault_text e ∷ [])

@@ -1,33 +1,43 @@
-// Lines to commands.
+//! Lines to commands.
 ghost use Rattle.std.specs.Prelude.{IfOk};
 ghost use Rattle.gauge.specs.Kinds.{IsOf};
 
-use crate::faults::Unreadable;
 use crate::map_pages::read_map;
 use crate::numbers::number;
 use crate::plan_pages::{GaugePlan, read_plan};
+use crate::unreadable::Unreadable;
 use maps::{Map, MapKind};
 use plans::PlanKind;
 use std::rt::Files;
 use survey::Call;
 
-// The first word of a line.
+/// The first word of a line.
 #[derive(Clone, Copy, Debug, PartialEq, Eq)]
 pub enum Verb {
+    /// `open`: the plan of the opening.
     Open,
+    /// `map`: the map of the opening, or a map page.
     Map,
+    /// `take`
     Take,
+    /// `report`
     Report,
+    /// `limit`
     Limit,
+    /// `begin`: a plan page.
     Begin,
+    /// `commit`
     Commit,
+    /// `abandon`
     Abandon,
 }
 
-// The kinds of the opening, which later pages keep.
+/// The kinds of the opening, which later pages keep.
 #[derive(Clone, Copy, Debug)]
 pub struct Kinds {
+    /// The kind of the plan below its layers.
     pub plan: PlanKind,
+    /// The kind of the map.
     pub map: MapKind,
 }
 

@@ -1,10 +1,8 @@
-// Job files that commands name.
-ghost use Rattle.std.specs.Prelude.{MatchResult};
-ghost use Rattle.jobs.specs.Jobs.{IsJob};
-ghost use Rattle.gauge.specs.Jobs.{TellsOf};
+//! Job files that commands name.
+ghost use Rattle.gauge.specs.Jobs.{ReadsJob};
 
-use crate::faults::Unreadable;
-use jobs::{LONGEST, Recipe};
+use crate::unreadable::Unreadable;
+use jobs::{LONGEST_JOB, Recipe};
 use std::alloc::Global;
 use std::fs::File;
 use std::io;
@@ -20,16 +18,14 @@ pub(crate) fn read_job<R: Files + AllocGlobal>(rt: &R, path: &str) -> Result<Rec
 // Reads at most one byte more than the longest job has.
 fn read_file<R: Files + AllocGlobal>(rt: &R, path: &str) -> io::Result<Vec<u8>> {
     let mut bytes = Vec::new(rt.alloc());
-    let mut file = File::open(rt, path)?.take(LONGEST as u64 + 1);
+    let mut file = File::open(rt, path)?.take(LONGEST_JOB as u64 + 1);
     file.read_to_end(&mut bytes)?;
     Ok(bytes)
 }
 
 // The recipe that a job lays down.
 fn recipe_of(heap: Global, job: &[u8]) -> Result<Recipe, Unreadable>
-    ensures { MatchResult result (IsJob job.now) (TellsOf job.now) }
+    ensures { ReadsJob job.now result }
 {
-    let mut recipe = Recipe::new();
-    recipe.read(heap, job)?;
-    Ok(recipe)
+    Ok(Recipe::parse(heap, job)?)
 }

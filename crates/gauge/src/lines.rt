@@ -1,38 +1,43 @@
-// The lines of the input, and their caps.
+//! The lines of the input, and their caps.
 ghost use Rattle.std.specs.Prelude.{◌≡◌, ◌≤◌, ◌<◌, ◌↔◌, Some, length};
 
 use std::str;
 
-// The most bytes that are read.
+/// The most bytes that are read.
 pub const MOST_BYTES: usize = 4194304;
 
-// The most lines.
+/// The most lines.
 pub const MOST_LINES: usize = 16384;
 
-// The most bytes of a line.
-pub const LONGEST: usize = 65535;
+/// The most bytes of a line.
+pub const LONGEST_LINE: usize = 65535;
 
+/// A line of the input.
 #[derive(Clone, Copy, Debug)]
 pub enum Line<'a> {
-    // Empty, or a remark.
+    /// Empty, or a remark.
     Passed,
+    /// More than 65,535 bytes.
     TooLong,
-    // Not UTF-8.
+    /// Not UTF-8.
     NotText,
+    /// Its text.
     Text(&'a str),
 }
 
-// What the input has too much of.
+/// What the input has too much of.
 #[derive(Clone, Copy, Debug, PartialEq, Eq)]
 pub enum Cap {
+    /// More than 4,194,304 bytes.
     Bytes,
+    /// More than 16,384 lines.
     Lines,
 }
 
 pub(crate) fn line_of(bytes: &[u8]) -> Line<'_> {
     if bytes.is_empty() || bytes.starts_with(b"#") {
         Line::Passed
-    } else if bytes.len() > LONGEST {
+    } else if bytes.len() > LONGEST_LINE {
         Line::TooLong
     } else {
         match str::from_utf8(bytes) {

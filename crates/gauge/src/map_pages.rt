@@ -1,11 +1,11 @@
-// Words to a map.
+//! Words to a map.
 ghost use Rattle.std.specs.Prelude.{◌≡◌, Some, IfOk};
 ghost use Rattle.maps.specs.Kinds.{kind_of};
 ghost use Rattle.maps.specs.declared.map.MapKind.{MapKind};
 
-use crate::faults::Unreadable;
 use crate::job_files::read_job;
 use crate::numbers::number;
+use crate::unreadable::Unreadable;
 use boxes::{BoxRow, Boxes};
 use cells::Cells;
 use maps::{Map, MapKind};

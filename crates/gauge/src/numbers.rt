@@ -1,5 +1,5 @@
-// Words that are numbers.
-use crate::faults::Unreadable;
+//! Words that are numbers.
+use crate::unreadable::Unreadable;
 use std::str::FromStr;
 
 // A decimal number. A plus sign before it is not read.

@@ -1,24 +1,27 @@
-// Words to a plan.
+//! Words to a plan.
 ghost use Rattle.std.specs.Prelude.{◌≡◌, Some, IfOk};
 ghost use Rattle.plans.specs.Plans.{kind_of};
 ghost use Rattle.plans.specs.declared.plan.PlanKind.{PlanKind};
 
-use crate::faults::Unreadable;
 use crate::job_files::read_job;
 use crate::numbers::number;
+use crate::unreadable::Unreadable;
 use audit::PointList;
-use jobs::{LayerNumbers, LayeredPlan};
+use layers::{LayerNumbers, LayeredPlan};
 use plans::{Plan, PlanKind};
 use sequences::{Hammersley, Sobol};
 use std::alloc::Global;
 use std::rt::Files;
 
+/// A plan of any kind with all three layers on it.
 pub type GaugePlan = LayeredPlan<Plan>;
 
-// A plan that was read, and the kind of it below its layers.
+/// A plan that was read.
 #[derive(Debug, Drop)]
 pub struct PlanPage {
+    /// Its kind below its layers.
     pub kind: PlanKind,
+    /// The plan with its layers.
     pub plan: GaugePlan,
     ghost below: { kind_of plan.plan.plan.plan ≡ kind },
 }

@@ -1,10 +1,10 @@
-// The commands of an input, gathered before the first of them is carried out.
-use crate::answers::Reply;
+//! The commands of an input, gathered before the first of them is carried out.
 use crate::commands::{Kinds, Verb, read_call};
-use crate::faults::Unreadable;
 use crate::lines::{Line, MOST_LINES, line_of, whole_lines};
 use crate::map_pages::read_map;
 use crate::plan_pages::{GaugePlan, PlanPage, read_plan};
+use crate::reply::Reply;
+use crate::unreadable::Unreadable;
 use maps::Map;
 use std::alloc::AllocError;
 use std::rt::Files;

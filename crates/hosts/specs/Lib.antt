@@ -1,2 +1,2 @@
 pub mod Readings
-pub mod Lives
+pub mod Keepers

@@ -1,11 +1,11 @@
-// A gauge along its life.
-ghost use Rattle.hosts.specs.Lives.{HasLife};
+//! A gauge along its life.
+ghost use Rattle.hosts.specs.Keepers.{HasLife};
 
 use coats::CoatMap;
 use nets::Net;
 use survey::{After, Answer, Call, Gauge, Survey, show_promise};
 
-/// A gauge that a life has come to, which keeps the promise.
+/// A gauge. Its type says that some life has come to it, and keeps the promise of every life.
 #[derive(Drop)]
 pub struct Keeper<P: Net, M: CoatMap> {
     gauge: Gauge<P, M>,
@@ -14,9 +14,9 @@ pub struct Keeper<P: Net, M: CoatMap> {
 
 impl<P: Net + Drop, M: CoatMap + Drop> Keeper<P, M> {
     ghost use Rattle.survey.specs.Gauges.{Asks, AskSteps, AskLives};
-    ghost use Rattle.hosts.specs.Lives.{IsOpen};
+    ghost use Rattle.hosts.specs.Keepers.{IsOpen};
 
-    /// Opens a gauge: a life begins.
+    /// Opens a survey of a plan and a map, as [`Survey::open`] does: a life begins.
     #[tactic(auto, using(crate::proofs::LivesOn::life_begins))]
     pub fn open(plan: P, map: M) -> Keeper<P, M>
         ensures { IsOpen plan map result.gauge }
@@ -27,12 +27,16 @@ impl<P: Net + Drop, M: CoatMap + Drop> Keeper<P, M> {
         }
     }
 
-    /// Makes a call: its answer, if it was allowed, and the gauge, with a life one call longer.
+    /// Makes a call, as [`Gauge::ask`] does: the gauge, with a life one call longer, and the answer; or, if
+    /// the call was not allowed, the gauge as it was, and no answer.
     #[tactic(auto, using(crate::proofs::LivesOn::lives_on))]
     pub fn ask(self, call: Call<P, M>) -> (Keeper<P, M>, Option<Answer>)
-        ensures rule { Asks self.gauge call (record { gauge = result.0.gauge; answer = result.1 }) }
-        ensures step { AskSteps self.gauge call (record { gauge = result.0.gauge; answer = result.1 }) }
-        ensures life { AskLives self.gauge call (record { gauge = result.0.gauge; answer = result.1 }) }
+        ensures rule { Asks self.gauge call
+            (record { gauge = result.0.gauge; answer = result.1 }) }
+        ensures step { AskSteps self.gauge call
+            (record { gauge = result.0.gauge; answer = result.1 }) }
+        ensures life { AskLives self.gauge call
+            (record { gauge = result.0.gauge; answer = result.1 }) }
     {
         let After { gauge, answer } = self.gauge.ask(call);
         (Keeper { gauge }, answer)

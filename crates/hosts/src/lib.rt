@@ -1,4 +1,4 @@
-// What a host leans on: surveys that it is lent, and a gauge that it keeps along its life.
+//! What a host leans on: surveys that it is lent, and a gauge that it keeps along its life.
 #![tactic(auto)]
 
 pub mod keeper;

@@ -1,4 +1,4 @@
-// Surveys of any types, read with no life in sight.
+//! Surveys of any types, read with no life in sight.
 ghost use Rattle.std.specs.Prelude.{◌≡◌};
 ghost use Rattle.survey.specs.Surveys.{ReportSteps, ReportIsNear};
 ghost use Rattle.hosts.specs.Readings.{ReportsAgree};
@@ -13,13 +13,15 @@ pub struct Reader<'a, P: Net, M: CoatMap> {
 }
 
 impl<'a, P: Net, M: CoatMap> Reader<'a, P, M> {
+    /// Lends a survey.
     pub fn new(survey: &'a Survey<P, M>) -> Reader<'a, P, M>
         ensures { result.survey.now ≡ survey.now }
     {
         Reader { survey }
     }
 
-    /// The survey's report, whose sum is within its radius of the truth.
+    /// The survey's report, whose sum is within its radius of the truth, 2^m times the mean coat of the
+    /// panel.
     pub fn report(&self) -> Report
         ensures step { ReportSteps self.now.survey.now result }
         ensures near { ReportIsNear self.now.survey.now result }
@@ -28,7 +30,8 @@ impl<'a, P: Net, M: CoatMap> Reader<'a, P, M> {
     }
 }
 
-/// The reports of two surveys, which agree where their maps have the same terms up to order.
+/// The reports of two surveys. They agree within their radii where the maps have the same terms up to
+/// order: |S·2^m' − S'·2^m| is at most R·2^m' + R'·2^m, the second one's numbers primed.
 pub fn compare<P: Net, M: CoatMap, Q: Net, K: CoatMap>(
     first: &Survey<P, M>,
     second: &Survey<Q, K>,

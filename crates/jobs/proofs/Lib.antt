@@ -1,3 +1,3 @@
-pub mod Points
+pub mod Plans
 pub mod Passed
 pub mod MapRows

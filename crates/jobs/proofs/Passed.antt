@@ -1,39 +1,52 @@
--- A job that lays down a recipe passes all checks.
-use Rattle.std.proofs.Common.{◌≡◌, ℕ, List, [], ◌∷◌, inl, inr, arith}
-use Rattle.nets.specs.Refusals.{Told, no_memory}
-use Rattle.plans.specs.declared.plan.Plan.{Plan}
-use Rattle.jobs.proofs.MapRows.{map_passes}
-use Rattle.jobs.specs.Layout.{offset, section, PlanLaid, LayersLaid}
-use Rattle.jobs.specs.Checks.{Check, First, Passes, Refused, directory_checks, plan_checks, layer_checks, plan_checks_of, layer_checks_of, map_checks_of, checks}
-use Rattle.jobs.specs.Jobs.{IsJob}
-use Rattle.jobs.specs.declared.layer_numbers.LayerNumbers.{LayerNumbers}
+-- The checks of a whole job, from those of its sections.
+use Rattle.std.proofs.Common.{ℕ, List, ◌++◌, inl, inr, Ok, Err, Result}
+use Rattle.refusals.specs.Told.{Told}
+use Rattle.refusals.specs.Checks.{Check, Passes, FirstTells}
+use Rattle.refusals.proofs.Checks.{passes_append, tells_before, tells_after, not_refused}
+use Rattle.jobs.specs.declared.job_fault.JobFault.{JobFault}
 use Rattle.jobs.specs.declared.recipe.Recipe.{Recipe}
+use Rattle.jobs.specs.Jobs.{Parses, Accepts}
+use Rattle.jobs.specs.Checks.{directory_checks, plan_checks_of, layer_checks_of, map_checks_of, checks}
 
--- what passes all checks is not refused
-pub not_refused : (cs : List Check) (t : Told) → Passes cs → First cs t → ⊥
-not_refused [] t p f = f
-not_refused (c ∷ cs) t p (inl f) = f.0 p.0
-not_refused (c ∷ cs) t p (inr f) = not_refused cs t p.1 f.1
+module _ (job : List ℕ) where
+  abbrev after_layers : List Check
+  after_layers = map_checks_of job
 
-pub plan_passes : (start : ℕ) (bytes : List ℕ) (p : Plan) → PlanLaid bytes p → Passes (plan_checks start bytes)
-plan_passes start bytes p h = grind arith
+  abbrev after_plan : List Check
+  after_plan = layer_checks_of job ++ after_layers
 
-pub layers_pass : (start : ℕ) (bytes : List ℕ) (l : LayerNumbers) → LayersLaid bytes l → Passes (layer_checks start bytes)
-layers_pass start bytes l h = grind arith
+  abbrev after_directory : List Check
+  after_directory = plan_checks_of job ++ after_plan
 
--- a job whose map is refused
-pub map_refused : (job : List ℕ) (t : Told) → Passes (directory_checks job) → Passes (plan_checks_of job) → Passes (layer_checks_of job) → First (map_checks_of job) t → First (checks job) t
-unfolding checks
-map_refused job t d p l f = inr (d.0, inr (d.1.0, inr (d.1.1.0, inr (d.1.1.1.0, inr (p.0, inr (p.1.0, inr (p.1.1.0, inr (p.1.1.1.0, inr (l.0, f)))))))))
+  pub all_pass : Passes (directory_checks job) → Passes (plan_checks_of job) → Passes (layer_checks_of job) → Passes (map_checks_of job) → Passes (checks job)
+  unfolding checks
+  all_pass d p l m = passes_append (directory_checks job) after_directory d (passes_append (plan_checks_of job) after_plan p (passes_append (layer_checks_of job) after_layers l m))
 
-pub job_passes : (job : List ℕ) (r : Recipe) → IsJob job r → Passes (checks job)
-unfolding checks
-job_passes job r h =
-    let p = plan_passes (offset job 0) _ _ h.plan in
-    let l = layers_pass (offset job 1) _ _ h.layers in
-    ((h.long, h.short), (h.plan_in_place, (h.layers_in_place, (h.map_in_place, (p.0, (p.1.0, (p.1.1.0, (p.1.1.1.0, (l.0, map_passes (offset job 2) _ _ h.map)))))))))
+  module _ (t : Told) where
+    pub directory_refused : FirstTells (directory_checks job) t → FirstTells (checks job) t
+    unfolding checks
+    directory_refused f = tells_before (directory_checks job) after_directory t f
 
--- only memory can be wanting for a job that lays down a recipe
-pub wanting : (job : List ℕ) (r : Recipe) (t : Told) → IsJob job r → Refused job t → t ≡ no_memory
-wanting job r t h (inl f) = absurd (not_refused (checks job) t (job_passes job r h) f)
-wanting job r t h (inr (p, e)) = e
+    past_directory : Passes (directory_checks job) → FirstTells after_directory t → FirstTells (checks job) t
+    unfolding checks
+    past_directory d f = tells_after (directory_checks job) after_directory t d f
+
+    pub plan_refused : Passes (directory_checks job) → FirstTells (plan_checks_of job) t → FirstTells (checks job) t
+    plan_refused d f = past_directory d (tells_before (plan_checks_of job) after_plan t f)
+
+    past_plan : Passes (directory_checks job) → Passes (plan_checks_of job) → FirstTells after_plan t → FirstTells (checks job) t
+    past_plan d p f = past_directory d (tells_after (plan_checks_of job) after_plan t p f)
+
+    pub layers_refused : Passes (directory_checks job) → Passes (plan_checks_of job) → FirstTells (layer_checks_of job) t → FirstTells (checks job) t
+    layers_refused d p f = past_plan d p (tells_before (layer_checks_of job) after_layers t f)
+
+    pub map_refused : Passes (directory_checks job) → Passes (plan_checks_of job) → Passes (layer_checks_of job) → FirstTells (map_checks_of job) t → FirstTells (checks job) t
+    map_refused d p l f = past_plan d p (tells_after (layer_checks_of job) after_layers t l f)
+
+-- of a job that passes all checks only want of memory is told
+pub accepts : (job : List ℕ) (r : Result Recipe JobFault) → Parses job r → Accepts job r
+accepts job (Ok r) h = tt
+accepts job (Err e) (inl f) = λ p. absurd (not_refused (checks job) _ p f)
+accepts job (Err e) (inr w) = λ p. w.1
+
+pub ruleset passed = (all_pass, directory_refused, plan_refused, layers_refused, map_refused)

@@ -1,23 +1,23 @@
--- The layout of a job file. Numbers are little-endian, and a byte past the end counts as 0.
-use Rattle.std.specs.Prelude.{◌≡◌, ℕ, zero, suc, ◌+◌, ◌*◌, ◌^◌, ◌≤◌, ◌⊎◌, if◌then◌else◌, ◌==◌, List, ◌++◌, length, map, drop, All, ℤ, slice_index, slice_range, vec_items}
+-- What the bytes of a job file say. Numbers are little-endian, and a byte past the end counts as 0.
+use Rattle.std.specs.Prelude.{◌≡◌, ℕ, ◌+◌, ◌*◌, if◌then◌else◌, List, map, drop, ℤ, slice_index, slice_range, vec_items}
 use Rattle.std.specs.List.{range_with_len}
-use Rattle.nets.specs.Bytes.{le, laid}
-use Rattle.nets.specs.Places.{Place, IsNet}
-use Rattle.little_endian.specs.Signed.{le_signed}
-use Rattle.coats.specs.Terms.{weight}
+use Rattle.little_endian.specs.Numbers.{le, le_signed}
+use Rattle.nets.specs.Places.{Place}
+use Rattle.audit.specs.Bytes.{places_in}
+use Rattle.layers.specs.declared.layer_numbers.LayerNumbers.{LayerNumbers}
+use Rattle.coats.specs.declared.term.Term.{Term}
 use Rattle.boxes.specs.declared.row.BoxRow.{BoxRow}
-use Rattle.boxes.specs.Rows.{BoxBounds, boxes_terms}
-use Rattle.steps.specs.declared.row.Step.{Step}
-use Rattle.steps.specs.Rows.{StepBounds, steps_terms}
+use Rattle.boxes.specs.Rows.{boxes_terms}
+use Rattle.steps.specs.declared.step.Step.{Step}
+use Rattle.steps.specs.Rows.{steps_terms}
 use Rattle.cells.specs.Cells.{cell, cells_terms}
-use Rattle.cells.specs.Tables.{held}
+use Rattle.cells.specs.Tables.{values_of}
 use Rattle.plans.specs.declared.plan.Plan.{Plan}
-use Rattle.plans.specs.declared.plan.Plan.TheVariants as plan
+use Rattle.plans.specs.declared.plan.Plan.TheVariants.{Hammersley, Sobol, Points}
 use Rattle.maps.specs.declared.map.Map.{Map}
-use Rattle.maps.specs.declared.map.Map.TheVariants as coat
+use Rattle.maps.specs.declared.map.Map.TheVariants as of_map
 use Rattle.maps.specs.declared.map.MapKind.{MapKind}
-use Rattle.maps.specs.declared.map.MapKind.TheVariants as of_kind
-use Rattle.jobs.specs.declared.layer_numbers.LayerNumbers.{LayerNumbers}
+use Rattle.maps.specs.declared.map.MapKind.TheVariants.{Boxes, Steps, Cells}
 
 -- the directory: pair k has the offset and the size of section k
 abbrev pub offset : List ℕ → ℕ → ℕ
@@ -33,122 +33,100 @@ stop job k = offset job k + size job k
 abbrev pub section : List ℕ → ℕ → List ℕ
 section job k = slice_range job (offset job k) (stop job k)
 
--- a section begins after the directory and the section ahead of it, and ends within the file
-abbrev pub InPlace : List ℕ → ℕ → Type 0
-InPlace job zero = (12 ≤ offset job 0) × (stop job 0 ≤ length job)
-InPlace job (suc k) = (12 ≤ offset job (suc k)) × (stop job k ≤ offset job (suc k)) × (stop job (suc k) ≤ length job)
-
 -- the plan and the map section begin with a kind
-abbrev pub kind : List ℕ → ℕ
-kind bytes = slice_index bytes 0
+abbrev pub kind_byte : List ℕ → ℕ
+kind_byte bytes = slice_index bytes 0
 
-abbrev pub level : List ℕ → ℕ
-level bytes = slice_index bytes 1
+-- the plan section: a kind, a level, and of a point list its places
+abbrev pub level_byte : List ℕ → ℕ
+level_byte bytes = slice_index bytes 1
 
--- the layer section begins with whether to swap
-abbrev pub swap : List ℕ → ℕ
-swap bytes = slice_index bytes 0
-
--- kind 2 has places
-abbrev pub plan_size : (kind m : ℕ) → ℕ
-plan_size k m = if k == 2 then 2 + 4 * 2 ^ m else 2
-
-abbrev pub places : List ℕ → List Place
-places bytes = laid (drop 2 bytes)
-
--- a plan section of kind k and level m
-pub record PlanHead (bytes : List ℕ) (k m : ℕ) : Type 0 where
-  pub kinds : kind bytes ≡ k
-  pub levels : level bytes ≡ m
-  pub low : m ≤ 12
-  pub long : length bytes ≡ plan_size k m
-
-pub record PointsLaid (bytes : List ℕ) (m : ℕ) (ps : List Place) : Type 0 where
-  pub head : PlanHead bytes 2 m
-  pub listed : ps ≡ places bytes
-  pub net : IsNet m ps
+abbrev pub listed_places : List ℕ → List Place
+listed_places bytes = places_in (drop 2 bytes)
 
 -- 0 Hammersley, 1 Sobol, 2 point list
-abbrev pub PlanLaid : List ℕ → Plan → Type 0
-PlanLaid bytes (plan.Hammersley p) = PlanHead bytes 0 p.level.m
-PlanLaid bytes (plan.Sobol p) = PlanHead bytes 1 p.level.m
-PlanLaid bytes (plan.Points p) = PointsLaid bytes p.level.m (vec_items p.places)
+abbrev pub SaysPlan : List ℕ → Plan → Type 0
+SaysPlan bytes (Hammersley p) = (kind_byte bytes ≡ 0) × (p.level.m ≡ level_byte bytes)
+SaysPlan bytes (Sobol p) = (kind_byte bytes ≡ 1) × (p.level.m ≡ level_byte bytes)
+SaysPlan bytes (Points p) =
+    (kind_byte bytes ≡ 2) × (p.level.m ≡ level_byte bytes) × (vec_items p.places ≡ listed_places bytes)
 
-pub record LayersLaid (bytes : List ℕ) (l : LayerNumbers) : Type 0 where
-  pub long : length bytes ≡ 21
-  pub swapped : swap bytes ≡ (if l.swap then 1 else 0)
+-- the layer section begins with whether to swap
+abbrev pub swap_byte : List ℕ → ℕ
+swap_byte bytes = slice_index bytes 0
+
+pub record SaysLayers (bytes : List ℕ) (l : LayerNumbers) : Type 0 where
+  pub swaps : swap_byte bytes ≡ (if l.swap then 1 else 0)
   pub s : l.s ≡ le 2 bytes 1
   pub t : l.t ≡ le 2 bytes 3
   pub x_word : l.x_word ≡ le 8 bytes 5
   pub y_word : l.y_word ≡ le 8 bytes 13
 
--- boxes: a count, and rows of 18 bytes
-abbrev pub box_at : List ℕ → (i : ℕ) → BoxRow
-box_at bytes i = record { x0 = le 4 bytes (2 + 18 * i); x1 = le 4 bytes (6 + 18 * i); y0 = le 4 bytes (10 + 18 * i); y1 = le 4 bytes (14 + 18 * i); w = le_signed bytes (18 + 18 * i) }
+-- the map section
+abbrev pub map_code : MapKind → ℕ
+map_code Boxes = 0
+map_code Steps = 1
+map_code Cells = 2
 
-abbrev pub boxes : List ℕ → List BoxRow
-boxes bytes = map (box_at bytes) (range_with_len 0 (slice_index bytes 1))
+-- where row i of a kind begins: after the kind and one count, two counts or none, in rows of 18, 6 or 16 bytes
+abbrev pub row_start : MapKind → (i : ℕ) → ℕ
+row_start Boxes i = 2 + 18 * i
+row_start Steps i = 3 + 6 * i
+row_start Cells i = 1 + 16 * i
 
-pub record BoxShape (bytes : List ℕ) : Type 0 where
-  pub kinds : kind bytes ≡ 0
-  pub few : slice_index bytes 1 ≤ 32
-  pub long : length bytes ≡ 2 + 18 * slice_index bytes 1
+-- the counts: of boxes, or of steps for x; and of steps for y
+abbrev pub first_count : List ℕ → ℕ
+first_count bytes = slice_index bytes 1
 
--- steps: two counts, and rows of 6 bytes, those for x first
-abbrev pub step_at : List ℕ → (i : ℕ) → Step
-step_at bytes i = record { bound = le 4 bytes (3 + 6 * i); value = le_signed bytes (7 + 6 * i) }
+abbrev pub second_count : List ℕ → ℕ
+second_count bytes = slice_index bytes 2
+
+-- how many rows a section has
+abbrev pub row_count : MapKind → List ℕ → ℕ
+row_count Boxes bytes = first_count bytes
+row_count Steps bytes = first_count bytes + second_count bytes
+row_count Cells bytes = 8
+
+abbrev pub box_from : (bytes : List ℕ) (at : ℕ) → BoxRow
+box_from bytes at = record {
+  x0 = le 4 bytes at;
+  x1 = le 4 bytes (at + 4);
+  y0 = le 4 bytes (at + 8);
+  y1 = le 4 bytes (at + 12);
+  w = le_signed bytes (at + 16);
+}
+
+abbrev pub step_from : (bytes : List ℕ) (at : ℕ) → Step
+step_from bytes at = record { bound = le 4 bytes at; value = le_signed bytes (at + 4) }
+
+abbrev pub boxes_in : List ℕ → List BoxRow
+boxes_in bytes = map (λ i. box_from bytes (row_start Boxes i)) (range_with_len 0 (first_count bytes))
+
+-- so many steps from the one of a number on; those for x come first
+abbrev pub steps_in : List ℕ → (first count : ℕ) → List Step
+steps_in bytes first count = map (λ i. step_from bytes (row_start Steps i)) (range_with_len first count)
 
 abbrev pub x_steps : List ℕ → List Step
-x_steps bytes = map (step_at bytes) (range_with_len 0 (slice_index bytes 1))
+x_steps bytes = steps_in bytes 0 (first_count bytes)
 
 abbrev pub y_steps : List ℕ → List Step
-y_steps bytes = map (step_at bytes) (range_with_len (slice_index bytes 1) (slice_index bytes 2))
+y_steps bytes = steps_in bytes (first_count bytes) (second_count bytes)
 
-pub record StepShape (bytes : List ℕ) : Type 0 where
-  pub kinds : kind bytes ≡ 1
-  pub few_x : slice_index bytes 1 ≤ 16
-  pub few_y : slice_index bytes 2 ≤ 16
-  pub long : length bytes ≡ 3 + 6 * (slice_index bytes 1 + slice_index bytes 2)
-
--- cells: 8 rows of 8 values
+-- 8 rows of 8 values, row 0 first
 unfoldable pub cell_row : List ℕ → (r : ℕ) → List ℤ
-cell_row bytes r = map (λ s. le_signed bytes (1 + 16 * r + 2 * s)) (range_with_len 0 8)
+cell_row bytes r = map (λ s. le_signed bytes (row_start Cells r + 2 * s)) (range_with_len 0 8)
 
-unfoldable pub cells : List ℕ → List (List ℤ)
-cells bytes = map (cell_row bytes) (range_with_len 0 8)
+unfoldable pub cells_in : List ℕ → List (List ℤ)
+cells_in bytes = map (cell_row bytes) (range_with_len 0 8)
 
-pub record CellShape (bytes : List ℕ) : Type 0 where
-  pub kinds : kind bytes ≡ 2
-  pub long : length bytes ≡ 129
+-- the terms that the rows of a kind mean
+abbrev pub terms_in : MapKind → List ℕ → List Term
+terms_in Boxes bytes = boxes_terms (boxes_in bytes)
+terms_in Steps bytes = steps_terms (x_steps bytes) (y_steps bytes)
+terms_in Cells bytes = cells_terms (cell (cells_in bytes))
 
--- of a kind, with no more rows than it allows, and as long as they are
-abbrev pub Shape : MapKind → List ℕ → Type 0
-Shape of_kind.Boxes bytes = BoxShape bytes
-Shape of_kind.Steps bytes = StepShape bytes
-Shape of_kind.Cells bytes = CellShape bytes
-
-abbrev pub Shaped : List ℕ → Type 0
-Shaped bytes = BoxShape bytes ⊎ StepShape bytes ⊎ CellShape bytes
-
-pub record BoxesLaid (bytes : List ℕ) (rows : List BoxRow) : Type 0 where
-  pub shape : BoxShape bytes
-  pub listed : rows ≡ boxes bytes
-  pub bounds : All BoxBounds rows
-  pub light : weight (boxes_terms rows) ≤ 16384
-
-pub record StepsLaid (bytes : List ℕ) (xs ys : List Step) : Type 0 where
-  pub shape : StepShape bytes
-  pub along_x : xs ≡ x_steps bytes
-  pub along_y : ys ≡ y_steps bytes
-  pub bounds : All StepBounds (xs ++ ys)
-  pub light : weight (steps_terms xs ys) ≤ 16384
-
-pub record CellsLaid (bytes : List ℕ) (c : ℕ → ℕ → ℤ) : Type 0 where
-  pub shape : CellShape bytes
-  pub values : c ≡ cell (cells bytes)
-  pub light : weight (cells_terms c) ≤ 16384
-
-abbrev pub MapLaid : List ℕ → Map → Type 0
-MapLaid bytes (coat.Boxes m) = BoxesLaid bytes m.rows.items
-MapLaid bytes (coat.Steps m) = StepsLaid bytes m.x.items m.y.items
-MapLaid bytes (coat.Cells m) = CellsLaid bytes (held m.table)
+abbrev pub SaysMap : List ℕ → Map → Type 0
+SaysMap bytes (of_map.Boxes m) = (kind_byte bytes ≡ map_code Boxes) × (m.rows.items ≡ boxes_in bytes)
+SaysMap bytes (of_map.Steps m) =
+    (kind_byte bytes ≡ map_code Steps) × (m.x.items ≡ x_steps bytes) × (m.y.items ≡ y_steps bytes)
+SaysMap bytes (of_map.Cells m) = (kind_byte bytes ≡ map_code Cells) × (values_of m.table ≡ cell (cells_in bytes))

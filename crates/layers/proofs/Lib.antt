@@ -1,2 +1,3 @@
 mod Prefixes
 mod Mapped
+pub mod Chosen

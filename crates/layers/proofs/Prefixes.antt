@@ -7,7 +7,7 @@ use Rattle.nets.specs.Places.{top}
 use Rattle.nets.specs.Digits.{digit, word}
 use Rattle.nets.proofs.Intervals.{top_below}
 use Rattle.nets.proofs.Words.{Bits, word_same, word_below, word_xor, digit_below, top_fewer, top_digits, top_word}
-use Rattle.layers.specs.Layers.{flip, scrambled_bit, scrambled}
+use Rattle.layers.specs.Layers.{flip, scramble_bit, scramble_of}
 
 xor_cancel : (a b m : ℕ) → bit_xor a m ≡ bit_xor b m → a ≡ b
 xor_cancel a b m e = simp (xor_assoc, xor_self, xor_zero_r) at (ap (λ z. bit_xor z m) e)
@@ -64,16 +64,16 @@ module _ (w : ℕ) where
   masked_keeps = mask_keeps flips flips_nested (λ x. omega (arith, word_below 6 (flip w x) (flip_bits x 6)))
 
   -- one XOR scrambles the six bits and keeps the lower ten
-  pub masked_is : (x : ℕ) → x < 2 ^ 16 → masked x ≡ scrambled w x
+  pub masked_is : (x : ℕ) → x < 2 ^ 16 → masked x ≡ scramble_of w x
   masked_is x h =
       let bits : Bits 6 (λ k. digit x (15 - k)) = λ k _. digit_below x (15 - k) in
-      let six : bit_xor (top 6 x) (word 6 (flip w x)) ≡ word 6 (scrambled_bit w x) =
+      let six : bit_xor (top 6 x) (word 6 (flip w x)) ≡ word 6 (scramble_bit w x) =
       ap (λ z. bit_xor z (word 6 (flip w x))) (top_digits 6 x (omega arith) h) ∙ word_xor 6 (λ k. digit x (15 - k)) (flip w x) bits (flip_bits x 6)
       in
       (simp (split, add-zero, xor_zero_r) at (xor_block 10 (x / 2 ^ 10) (word 6 (flip w x)) (x % 2 ^ 10) 0 (omega arith) (omega arith)))
       ∙ ap (λ z. z * 2 ^ 10 + x % 2 ^ 10) six
 
-  pub scramble_keeps : Keeps (scrambled w)
+  pub scramble_keeps : Keeps (scramble_of w)
   scramble_keeps =
       record {
         below = λ x h. rw (masked_is x h) at (masked_keeps.below x h);

@@ -1,12 +1,12 @@
-// The layer that shifts each place digitally.
+//! The layer that shifts each place digitally.
 ghost use Rattle.std.specs.Prelude.{◌≡◌, ◌^◌, ◌<◌};
-ghost use Rattle.layers.specs.Layers.{shifted};
+ghost use Rattle.layers.specs.Layers.{shift_of};
 
-use crate::layer::{Layer, Layered};
+use crate::layer::Layer;
+use crate::layered::Layered;
 use nets::Place;
 
-// Each x XOR s, and each y XOR t. Their bounds are said, since a field that a function does not read
-// could be any number to its proof.
+/// The layer that makes each x to x XOR s, and each y to y XOR t.
 #[derive(Clone, Copy, Debug, PartialEq, Eq)]
 pub struct ShiftLayer {
     s: u16,
@@ -15,9 +15,11 @@ pub struct ShiftLayer {
     ghost t_fits: { t < 2 ^ 16 },
 }
 
+/// A plan with a shift on it.
 pub type Shift<P> = Layered<P, ShiftLayer>;
 
 impl<P> Layered<P, ShiftLayer> {
+    /// The plan with a shift by (s, t) on it.
     pub fn new(plan: P, s: u16, t: u16) -> Self
         ensures { (result.plan ≡ plan) × (result.layer.s ≡ s) × (result.layer.t ≡ t) }
     {
@@ -26,7 +28,7 @@ impl<P> Layered<P, ShiftLayer> {
 }
 
 impl Layer for ShiftLayer {
-    ghost moved = { λ l. shifted l.s l.t };
+    ghost moved = { λ l. shift_of l.s l.t };
 
     fn show_keeps(&self) {}
 

@@ -1,1 +1,1 @@
-pub mod Signed
+pub mod Numbers

@@ -1,4 +1,4 @@
-// Numbers in bytes, lowest byte first. Bytes past the end count as 0.
+//! Numbers in bytes, lowest byte first. Bytes past the end count as 0.
 #![tactic(auto)]
 
 pub mod numbers;

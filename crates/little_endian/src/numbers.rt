@@ -1,14 +1,15 @@
-// The numbers that stand at an index, each read by its own byte-order method.
+//! The numbers that stand at an index of bytes.
 ghost use Rattle.std.specs.Prelude.{◌≡◌, drop, slice_index};
-ghost use Rattle.nets.specs.Bytes.{le};
-ghost use Rattle.little_endian.specs.Signed.{le_signed};
+ghost use Rattle.little_endian.specs.Numbers.{le, le_signed};
 
+/// The byte at an index.
 pub fn byte_at(bytes: &[u8], i: usize) -> u8
     ensures { result ≡ slice_index bytes.now i }
 {
     bytes.get(i).copied().unwrap_or(0)
 }
 
+/// The two bytes from an index on.
 pub fn u16_at(bytes: &[u8], i: usize) -> u16
     ensures { result ≡ le 2 bytes.now i }
 {
@@ -16,6 +17,7 @@ pub fn u16_at(bytes: &[u8], i: usize) -> u16
     u16::from_le_bytes([byte_at(rest, 0), byte_at(rest, 1)])
 }
 
+/// The two bytes from an index on, in two's complement.
 pub fn i16_at(bytes: &[u8], i: usize) -> i16
     ensures { result ≡ le_signed bytes.now i }
 {
@@ -23,6 +25,7 @@ pub fn i16_at(bytes: &[u8], i: usize) -> i16
     i16::from_le_bytes([byte_at(rest, 0), byte_at(rest, 1)])
 }
 
+/// The four bytes from an index on.
 pub fn u32_at(bytes: &[u8], i: usize) -> u32
     ensures { result ≡ le 4 bytes.now i }
 {
@@ -35,6 +38,7 @@ pub fn u32_at(bytes: &[u8], i: usize) -> u32
     ])
 }
 
+/// The eight bytes from an index on.
 pub fn u64_at(bytes: &[u8], i: usize) -> u64
     ensures { result ≡ le 8 bytes.now i }
 {

@@ -1,4 +1,4 @@
-// A map of any kind.
+//! A map of any kind.
 #![tactic(auto)]
 
 pub mod map;

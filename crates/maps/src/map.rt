@@ -1,4 +1,4 @@
-// All kinds of map as one type, which is a map too.
+//! All kinds of map as one type, which is a map too.
 ghost use Rattle.std.specs.Prelude.{◌≡◌};
 ghost use Rattle.maps.specs.Kinds.{kind_of, terms_of};
 
@@ -8,21 +8,30 @@ use coats::CoatMap;
 use nets::Place;
 use steps::Steps;
 
+/// A map of any kind.
 #[derive(Debug, Drop)]
 pub enum Map {
+    /// Weights on boxes, added.
     Boxes(Boxes),
+    /// Steps along x times steps along y.
     Steps(Steps),
+    /// A value for each of 8 by 8 squares.
     Cells(Cells),
 }
 
+/// The kind of a map.
 #[derive(Clone, Copy, Debug, PartialEq, Eq)]
 pub enum MapKind {
+    /// A box map, as [`Boxes`].
     Boxes,
+    /// A step map, as [`Steps`].
     Steps,
+    /// A cell map, as [`Cells`].
     Cells,
 }
 
 impl Map {
+    /// The kind of the map.
     pub fn kind(&self) -> MapKind
         ensures { result ≡ kind_of self.now }
     {
@@ -34,7 +43,6 @@ impl Map {
     }
 }
 
-// A match in each call, since no function may make a dyn value and hand it out.
 impl CoatMap for Map {
     ghost terms = { terms_of };
 

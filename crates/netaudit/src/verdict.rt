@@ -1,53 +1,55 @@
-// What is said of a list of places.
+//! What is said of a list of places.
 ghost use Rattle.std.specs.Prelude.{Some};
-ghost use Rattle.netaudit.specs.Texts.{text};
-ghost use Rattle.netaudit.specs.Verdicts.{Vetted};
+ghost use Rattle.netaudit.specs.Texts.{verdict_text};
+ghost use Rattle.netaudit.specs.Verdicts.{Vets};
 
-use audit::{Accepted, AuditFault, audit_bytes};
+use audit::{AuditFault, NetBytes};
+use nets::MOST_PLACES;
 use std::fmt;
 
-// The bytes of the longest list, of level 12.
-pub const LONGEST: usize = 16384;
+/// The bytes of the longest list, of level 12.
+pub const LONGEST_LIST: usize = 4 * MOST_PLACES as usize;
 
-// No `Result`, since a refusal is an answer too, and the type prints itself.
-#[derive(Clone, Copy, Debug, PartialEq, Eq)]
-pub enum Verdict {
-    // A net, with how many intervals were examined.
-    Net(Accepted),
-    // 12 or 13: what the audit refuses.
+/// What is said of a list of places.
+#[derive(Clone, Copy, Debug)]
+pub enum Verdict<'a> {
+    /// A net, as the audit found it.
+    Net(NetBytes<'a>),
+    /// 12 or 13: what the audit refuses.
     Refused(AuditFault),
-    // 12: more bytes than the longest list has. Nobody knows how many.
+    /// 12: more bytes than the longest list has. Nobody has counted them.
     TooLong,
 }
 
-pub fn vet(bytes: &[u8]) -> Verdict
-    ensures { Vetted bytes.now result }
+/// The verdict on bytes that lay down places.
+pub fn vet(bytes: &[u8]) -> Verdict<'_>
+    ensures { Vets bytes.now result }
 {
-    if bytes.len() > LONGEST {
+    if bytes.len() > LONGEST_LIST {
         return Verdict::TooLong;
     }
-    match audit_bytes(bytes) {
+    match NetBytes::audit(bytes) {
         Ok(net) => Verdict::Net(net),
         Err(fault) => Verdict::Refused(fault),
     }
 }
 
-// Written by hand, since the text is proved.
-impl fmt::Display for Verdict {
-    ghost output = { λ v. Some (text v) };
+impl fmt::Display for Verdict<'_> {
+    ghost output = { λ v. Some (verdict_text v) };
 
     fn fmt<W: fmt::Write>(&self, f: &mut fmt::Formatter<W>) -> fmt::Result {
         match self {
-            Verdict::Net(Accepted { level, intervals }) => {
-                let places = level.places();
-                let level = level.get();
+            Verdict::Net(net) => {
+                let places = net.level().places();
+                let level = net.level().get();
+                let intervals = net.intervals();
                 write!(
                     f,
                     "places {places}\nlevel {level}\nintervals {intervals}\nnet"
                 )
             }
             Verdict::Refused(fault) => write!(f, "{fault}"),
-            Verdict::TooLong => write!(f, "refused 12 more than {LONGEST} bytes"),
+            Verdict::TooLong => write!(f, "refused 12 more than {LONGEST_LIST} bytes"),
         }
     }
 }

@@ -1,3 +1,5 @@
 pub mod Counts
 pub mod Intervals
 pub mod Words
+pub mod Coordinates
+pub mod Points

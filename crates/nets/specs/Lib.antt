@@ -1,6 +1,6 @@
 pub mod Sums
-pub mod Places
 pub mod Digits
+pub mod Places
+pub mod Points
 pub mod Refusals
 pub mod Plans
-pub mod Bytes

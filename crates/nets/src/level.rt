@@ -1,10 +1,13 @@
-// The level of a plan.
+//! The level of a plan.
 ghost use Rattle.std.specs.Prelude.{◌≡◌, ◌^◌, ◌≤◌};
-ghost use Rattle.nets.specs.Refusals.{OfLevel};
+ghost use Rattle.nets.specs.Refusals.{MakesLevel};
 
 use crate::faults::LevelFault;
 
-// A whole number from 0 to 12. A ghost field and no model, so that this is known without a call.
+/// How many places a plan has at most, at level 12.
+pub const MOST_PLACES: u32 = 4096;
+
+/// The level m of a plan, from 0 to 12.
 #[derive(Clone, Copy, Debug, PartialEq, Eq)]
 pub struct Level {
     m: u32,
@@ -14,9 +17,12 @@ pub struct Level {
 impl TryFrom<u32> for Level {
     type Error = LevelFault;
 
-    ghost try_from_gives = { OfLevel (λ l. l.m) };
+    ghost try_from_gives = { MakesLevel (λ l. l.m) };
 
-    // The number is refused if it is over 12.
+    /// The level of a number.
+    ///
+    /// # Errors
+    /// 4 for a number over 12.
     fn try_from(m: u32) -> Result<Level, LevelFault> {
         if m > 12 {
             Err(LevelFault::TooHigh(m))
@@ -27,6 +33,7 @@ impl TryFrom<u32> for Level {
 }
 
 impl Level {
+    /// The number m.
     pub fn get(self) -> u32
         ensures value { result ≡ self.m }
         ensures bound { result ≤ 12 }
@@ -34,11 +41,11 @@ impl Level {
         self.m
     }
 
-    // How many places a plan of this level has.
+    /// How many places a plan of this level has: 2^m, at most [`MOST_PLACES`].
     #[tactic(auto, using(std::proofs::Common::pow_mono))]
     pub fn places(self) -> u32
         ensures value { result ≡ 2 ^ self.m }
-        ensures bound { result ≤ 4096 }
+        ensures bound { result ≤ MOST_PLACES }
     {
         1 << self.m
     }

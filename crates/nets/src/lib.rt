@@ -1,4 +1,4 @@
-// Measuring plans: nets of places in base two.
+//! Measuring plans: places of a panel, and nets of places in base two.
 #![tactic(auto)]
 
 pub mod bits;
@@ -8,5 +8,5 @@ pub mod net;
 
 pub use bits::{digit_of, top_bits};
 pub use faults::{LevelFault, PlaceFault};
-pub use level::Level;
+pub use level::{Level, MOST_PLACES};
 pub use net::{Net, Place, check_index};

@@ -1,41 +1,45 @@
-// What every plan promises.
-ghost use Rattle.std.specs.Prelude.{◌≡◌, ℕ, ◌≤◌, List};
-ghost use Rattle.nets.specs.Places.{Place as Spot, IsNet};
-ghost use Rattle.nets.specs.Plans.{Indexed, Placed};
+//! What every plan promises.
+ghost use Rattle.std.specs.Prelude.{◌≡◌, ℕ, List};
+ghost use Rattle.nets.specs.Places.{Place, IsNet};
+ghost use Rattle.nets.specs.Plans.{ChecksIndex, GivesPlace};
 
 use crate::faults::PlaceFault;
+use crate::level::Level;
 
-// Two coordinates, x and y. Each stands for itself / 65,536.
+/// A place of the panel: its coordinates x and y, each in units of 1 / 65,536 of a side.
 pub type Place = (u16, u16);
 
-// A plan: a level m, at most 12, and a net of 2^m places in a fixed order.
+/// A plan: a level m, and a (0,m,2)-net in base two of 2^m places in a fixed order (Niederreiter, Random
+/// Number Generation and Quasi-Monte Carlo Methods).
 pub trait Net {
     ghost level: { Self → ℕ };
 
-    ghost places: { Self → List Spot };
+    ghost places: { Self → List Place };
 
-    // The places are a net. It does nothing when it is run.
+    /// The places are a net. It does nothing when it is run.
     fn show_net(&self)
         ensures { IsNet (level self.now) (places self.now) };
 
-    // A number and not a `Level`, since it is what a gauge reports.
-    fn level(&self) -> u32
-        ensures value { result ≡ level self.now }
-        ensures bound { result ≤ 12 };
+    /// The level m.
+    fn level(&self) -> Level
+        ensures { result.m ≡ level self.now };
 
-    // The place at an index, which is refused if it is 2^m or more.
+    /// The place at an index.
+    ///
+    /// # Errors
+    /// 11 for an index of 2^m or more.
     fn place(&self, i: u32) -> Result<Place, PlaceFault>
-        ensures { Placed (level self.now) (places self.now) i result };
+        ensures { GivesPlace (level self.now) (places self.now) i result };
 }
 
-// An index is refused if it is 2^level or more.
-pub fn check_index(level: u32, i: u32) -> Result<(), PlaceFault>
-    ensures { Indexed level i result }
+/// Checks an index of a plan.
+///
+/// # Errors
+/// 11 for an index of 2^m or more.
+pub fn check_index(level: Level, i: u32) -> Result<(), PlaceFault>
+    ensures { ChecksIndex level.m i result }
 {
-    if level >= 32 {
-        return Ok(());
-    }
-    if i < 1 << level {
+    if i < level.places() {
         Ok(())
     } else {
         Err(PlaceFault::NoPlace(i))

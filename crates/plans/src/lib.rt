@@ -1,4 +1,4 @@
-// A plan whose kind is chosen when the program runs.
+//! A plan whose kind is chosen when the program runs.
 #![tactic(auto)]
 
 pub mod plan;

@@ -1,26 +1,35 @@
-// All kinds of plan as one type, which is a plan too.
+//! All kinds of plan as one type, which is a plan too.
 ghost use Rattle.std.specs.Prelude.{◌≡◌};
 ghost use Rattle.plans.specs.Plans.{kind_of, level_of, places_of};
 
 use audit::PointList;
-use nets::{Net, Place, PlaceFault};
+use nets::{Level, Net, Place, PlaceFault};
 use sequences::{Hammersley, Sobol};
 
+/// A plan of any kind, with no layers.
 #[derive(Debug, Drop)]
 pub enum Plan {
+    /// Hammersley's points of a level.
     Hammersley(Hammersley),
+    /// Sobol's points of a level.
     Sobol(Sobol),
+    /// A customer's own list.
     Points(PointList),
 }
 
+/// The kind of a plan.
 #[derive(Clone, Copy, Debug, PartialEq, Eq)]
 pub enum PlanKind {
+    /// Hammersley's points.
     Hammersley,
+    /// Sobol's points.
     Sobol,
+    /// A customer's own list.
     Points,
 }
 
 impl Plan {
+    /// Its kind.
     pub fn kind(&self) -> PlanKind
         ensures { result ≡ kind_of self.now }
     {
@@ -32,7 +41,6 @@ impl Plan {
     }
 }
 
-// A match in each call, since no function may make a dyn value and hand it out.
 impl Net for Plan {
     ghost level = { level_of };
 
@@ -46,7 +54,7 @@ impl Net for Plan {
         }
     }
 
-    fn level(&self) -> u32 {
+    fn level(&self) -> Level {
         match self {
             Plan::Hammersley(plan) => plan.level(),
             Plan::Sobol(plan) => plan.level(),

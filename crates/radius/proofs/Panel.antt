@@ -11,7 +11,7 @@ use Rattle.coats.proofs.Sums.{all_joined}
 use Rattle.nets.specs.Places.{Place}
 use Rattle.nets.proofs.Counts.{one_if, count-cons}
 use Rattle.coats.specs.declared.term.Term.{Term}
-use Rattle.coats.specs.Terms.{boxed, integral, Sides}
+use Rattle.coats.specs.Terms.{is_boxed, integral_of, HasSides}
 use Rattle.radius.specs.Radius.{added}
 use Rattle.radius.specs.Panel.{square}
 use Rattle.radius.specs.Claims.{PanelAdds, PanelWhole}
@@ -47,7 +47,7 @@ module _ (f g : ℕ → Bool) where
       let parts = add-mul (one_if (f x)) (count_by f xs) (count_by g ys) in
       rw (count-cons f x xs) (omega (arith, all, parts, in_column x ys, in_columns xs ys))
 
-in_square : (n u v : ℕ) → u ≤ n → v ≤ n → count_by (boxed u v) (square n) ≡ u * v
+in_square : (n u v : ℕ) → u ≤ n → v ≤ n → count_by (is_boxed u v) (square n) ≡ u * v
 unfolding square
 in_square n u v hu hv = in_columns (λ x. ltb x u) (λ y. ltb y v) (range_with_len 0 n) (range_with_len 0 n) ∙ ap₂ ◌*◌ (below n u hu) (below n v hv)
 
@@ -60,11 +60,11 @@ pub added_none : (ps : List Place) → added [] ps ≡ pos 0
 added_none [] = refl
 added_none (p ∷ ps) = omega (arith, ints, added_none ps)
 
-pub added_term : (t : Term) (ts : List Term) (ps : List Place) → added (t ∷ ts) ps ≡ t.w *ℤ pos (count_by (boxed t.u t.v) ps) +ℤ added ts ps
+pub added_term : (t : Term) (ts : List Term) (ps : List Place) → added (t ∷ ts) ps ≡ t.w *ℤ pos (count_by (is_boxed t.u t.v) ps) +ℤ added ts ps
 added_term t ts [] = omega (arith, ints)
-added_term t ts (p ∷ ps) = rw (count-cons (boxed t.u t.v) p ps) (omega (arith, ints, picked (boxed t.u t.v p) t.w, added_term t ts ps))
+added_term t ts (p ∷ ps) = rw (count-cons (is_boxed t.u t.v) p ps) (omega (arith, ints, picked (is_boxed t.u t.v p) t.w, added_term t ts ps))
 
-added_square : (n : ℕ) (ts : List Term) → All (λ t. (t.u ≤ n) × (t.v ≤ n)) ts → added ts (square n) ≡ integral ts
+added_square : (n : ℕ) (ts : List Term) → All (λ t. (t.u ≤ n) × (t.v ≤ n)) ts → added ts (square n) ≡ integral_of ts
 added_square n [] h = added_none (square n)
 added_square n (t ∷ ts) h =
     let at : (t.u ≤ n) × (t.v ≤ n) = All-head (λ (t : Term). (t.u ≤ n) × (t.v ≤ n)) t ts h in
@@ -72,7 +72,7 @@ added_square n (t ∷ ts) h =
     added_term t ts (square n) ∙ ap₂ (λ (c : ℕ) (z : ℤ). t.w *ℤ pos c +ℤ z) (in_square n t.u t.v at.0 at.1) rest
 
 pub panel_adds : PanelAdds
-panel_adds ts is_map = added_square (2 ^ 16) ts (All-weaker Sides (λ (t : Term). (t.u ≤ 2 ^ 16) × (t.v ≤ 2 ^ 16)) (λ t s. (omega arith, omega arith)) ts is_map.sides)
+panel_adds ts is_map = added_square (2 ^ 16) ts (All-weaker HasSides (λ (t : Term). (t.u ≤ 2 ^ 16) × (t.v ≤ 2 ^ 16)) (λ t s. (omega arith, omega arith)) ts is_map.sides)
 
 -- a number stands once in a range
 none_before : (b n a : ℕ) → a < b → count_by (λ x. eqb x a) (range_with_len b n) ≡ 0

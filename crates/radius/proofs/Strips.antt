@@ -8,7 +8,7 @@ use Rattle.std.proofs.lemmas.Bool.{cases_lt}
 use Rattle.std.proofs.lemmas.Bool.Decides.{nat_tests}
 use Rattle.nets.specs.Places.{Place, IsNet}
 use Rattle.nets.proofs.Intervals.{pow_sum}
-use Rattle.coats.specs.Terms.{boxed}
+use Rattle.coats.specs.Terms.{is_boxed}
 use Rattle.radius.specs.Claims.{Off, BoxShares}
 use Rattle.radius.proofs.Counts.{count_under, count_split, count_zero, below_next, and_left, and_right}
 
@@ -68,7 +68,7 @@ module _ (m v : ℕ) (ps : List Place) (net : IsNet m ps) (v_low : 1 ≤ v) (v_h
 
   -- the box of width u is off by e
   BoxOff : (e u : ℕ) → Type 0
-  BoxOff e u = Off e (count_by (boxed u v) ps) (2 ^ m * (u * v))
+  BoxOff e u = Off e (count_by (is_boxed u v) ps) (2 ^ m * (u * v))
 
   one_strip : (k a : ℕ) → k ≤ m → a < 2 ^ k → Off 1 (count_by (strip (width k) a v) ps) (2 ^ m * (width k * v)) × (count_by (strip (width k) a v) ps ≤ 2 ^ (m - k))
   one_strip k a hk ha =
@@ -84,7 +84,7 @@ module _ (m v : ℕ) (ps : List Place) (net : IsNet m ps) (v_low : 1 ≤ v) (v_h
         most (2 ^ r) (omega arith) (omega arith),
       )
 
-  next : (k t : ℕ) → count_by (boxed (suc t * width k) v) ps ≡ count_by (boxed (t * width k) v) ps + count_by (strip (width k) t v) ps
+  next : (k t : ℕ) → count_by (is_boxed (suc t * width k) v) ps ≡ count_by (is_boxed (t * width k) v) ps + count_by (strip (width k) t v) ps
   next k t = count_split _ _ _ (λ p. and_right (ltb p.1 v) _ _ _ (below_next p.0 (width k) t (pow_pos (16 - k)))) ps
 
   forth : (k e t : ℕ) → k ≤ m → t < 2 ^ k → BoxOff e (t * width k) → BoxOff (e + 1) (suc t * width k)
@@ -97,7 +97,7 @@ module _ (m v : ℕ) (ps : List Place) (net : IsNet m ps) (v_low : 1 ≤ v) (v_h
 
   empty_box : BoxOff 0 0
   unfolding BoxOff
-  empty_box = omega (arith, count_zero (boxed 0 v) (λ p. grind (arith, nat_tests)) ps)
+  empty_box = omega (arith, count_zero (is_boxed 0 v) (λ p. grind (arith, nat_tests)) ps)
 
   -- the two ends of the strip t of depth k
   record Ends (k t : ℕ) : Type 0 where
@@ -154,9 +154,9 @@ module _ (m v : ℕ) (ps : List Place) (net : IsNet m ps) (v_low : 1 ≤ v) (v_h
       let p = ends m t (omega arith) at.within in
       let none : m - m ≡ 0 = omega arith in
       let single : 2 ^ (m - m) ≡ 1 = ap (λ z. 2 ^ z) none in
-      between m p.left p.right _ _ (count_by (boxed u v) ps) (2 ^ m) v t g u p.few p.at_left p.at_right
-      (count_under (boxed (t * g) v) (boxed u v) (λ p. grind (arith, nat_tests, at.low)) ps)
-      (count_under (boxed u v) (boxed (suc t * g) v) (λ p. grind (arith, nat_tests, at.high)) ps)
+      between m p.left p.right _ _ (count_by (is_boxed u v) ps) (2 ^ m) v t g u p.few p.at_left p.at_right
+      (count_under (is_boxed (t * g) v) (is_boxed u v) (λ p. grind (arith, nat_tests, at.low)) ps)
+      (count_under (is_boxed u v) (is_boxed (suc t * g) v) (λ p. grind (arith, nat_tests, at.high)) ps)
       (omega (arith, next m t, (one_strip m t (omega arith) at.within).1)) at whole v_high
 
 pub box_shares : BoxShares

@@ -1,3 +1,2 @@
 pub mod Lengths
-pub mod Layered
 pub mod Told

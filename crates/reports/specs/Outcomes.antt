@@ -1,7 +1,6 @@
 -- The text of what is said of a job.
 use Rattle.std.specs.Prelude.{ℕ, List, ◌++◌, codes}
-use Rattle.jobs.specs.Refusals.{refusal_told}
-use Rattle.jobs.specs.Texts.{told_text}
+use Rattle.jobs.specs.Refusals.{refusal_told, told_text}
 use Rattle.reports.specs.Texts.{measured_text}
 use Rattle.reports.specs.declared.outcome.Outcome.{Outcome}
 use Rattle.reports.specs.declared.outcome.Outcome.TheVariants.{Measured, Refused}

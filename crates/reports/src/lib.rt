@@ -1,16 +1,15 @@
-// The report of a job: what is measured of the whole panel, or how the job is refused, as a text.
+//! The report of a job: what is measured of the whole panel, or how the job is refused, as a text.
 #![tactic(auto)]
 
 pub mod examination;
-pub mod faults;
 pub mod measured;
 pub mod outcome;
 pub mod panels;
-mod texts;
+pub mod text_fault;
 mod writing;
 
 pub use examination::{ROOM, examine, write_report};
-pub use faults::TextFault;
 pub use measured::Measured;
 pub use outcome::Outcome;
 pub use panels::measure;
+pub use text_fault::TextFault;

@@ -1,20 +1,22 @@
-// What is said of a job.
+//! What is said of a job.
 ghost use Rattle.std.specs.Prelude.{◌≡◌, ◌≤◌, length};
 ghost use Rattle.reports.specs.Outcomes.{outcome_text};
 
 use crate::measured::Measured;
-use jobs::{Refusal, Text};
+use jobs::Refusal;
+use texts::Text;
 
-// No `Result`, since a refusal is an answer too.
+/// What is said of a job; a refusal is said too.
 #[derive(Clone, Copy, Debug, PartialEq, Eq)]
 pub enum Outcome {
-    // What is measured of the whole panel.
+    /// What is measured of the whole panel.
     Measured(Measured),
+    /// How the job is refused.
     Refused(Refusal),
 }
 
 impl Outcome {
-    // Its text, which needs no memory.
+    /// Its text, at most 96 bytes, which needs no memory.
     #[tactic(auto, using(crate::proofs::Lengths::text_short))]
     pub fn text(self) -> Text
         ensures value { result.bytes ≡ outcome_text self }

@@ -1,4 +1,4 @@
-// Writing a text into memory that a caller hands over.
+//! Writing a text into memory that a caller hands over.
 ghost use Rattle.std.specs.Prelude.{◌≤◌, length};
 ghost use Rattle.reports.specs.Reports.{Stands};
 

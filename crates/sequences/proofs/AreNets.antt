@@ -1,35 +1,14 @@
 -- The points of Hammersley and of Sobol are nets.
-use Rattle.std.proofs.Common.{◌≡◌, ℕ, ◌+◌, ◌-◌, ◌*◌, ◌/◌, ◌%◌, ◌^◌, ◌<◌, ◌≤◌, List, length, get_or, sym, ◌∙◌, mod-eq_of_lt, div-add-mod', mul-add, arith}
-use Rattle.std.proofs.lemmas.List.FromFn.{length-map-range_with_len, get_or-map-range_with_len}
-use Rattle.std.proofs.lemmas.List.Elements.{All-from_get_or}
+use Rattle.std.proofs.Common.{◌≡◌, ℕ, ◌+◌, ◌-◌, ◌*◌, ◌/◌, ◌%◌, ◌^◌, ◌<◌, ◌≤◌, sym, ◌∙◌, div-add-mod', mul-add, arith}
 use Rattle.nets.specs.Digits.{digit, word}
-use Rattle.nets.specs.Places.{Place, OnPanel, IsNet}
+use Rattle.nets.specs.Places.{IsNet}
 use Rattle.nets.specs.Sums.{total}
 use Rattle.nets.proofs.Counts.{total_add, total_same}
-use Rattle.nets.proofs.Intervals.{Shares, net_from_apart}
+use Rattle.nets.proofs.Points.{net_from_points, index_same}
 use Rattle.nets.proofs.Words.{word_below, digit_below, digits_same, top_number}
-use Rattle.sequences.specs.Sequences.{binomial, hammersley, hammersley_net, sobol_bit, sobol, sobol_net, points_of}
-use Rattle.sequences.proofs.Coordinates.{below, reversed_below, tops_same}
+use Rattle.sequences.specs.Sequences.{binomial, hammersley, hammersley_net, sobol_bit, sobol, sobol_net}
+use Rattle.nets.proofs.Coordinates.{below, reversed_below, tops_same}
 use Rattle.sequences.proofs.Pascal.{all_even}
-
--- the places f m 0, f m 1, .., f m (2^m - 1)
-module _ (f : ℕ → ℕ → Place) (m : ℕ) where
-  pub place_at : (i : ℕ) → i < 2 ^ m → get_or (points_of f m) i (0, 0) ≡ f m i
-  place_at i h = get_or-map-range_with_len (f m) 0 (2 ^ m) i i (0, 0) h (omega arith)
-
-  -- are a net, if two in one interval have one index
-  net_from_points : m ≤ 12 → ((i : ℕ) → i < 2 ^ m → OnPanel (f m i)) → ((d i j : ℕ) → d ≤ m → i < 2 ^ m → j < 2 ^ m → Shares m d (f m i) (f m j) → i ≡ j)
-      → IsNet m (points_of f m)
-  net_from_points hm inside apart =
-      let ps : List Place = points_of f m in
-      let long : length ps ≡ 2 ^ m = length-map-range_with_len (f m) 0 (2 ^ m) in
-      net_from_apart m ps hm long
-      (All-from_get_or OnPanel ps (0, 0) (λ i h. let l : i < 2 ^ m = omega arith in rw (place_at i l) (inside i l)))
-      (λ d hd j k hj hk s. let l : j < 2 ^ m = omega arith in let q : k < 2 ^ m = omega arith in apart d j k hd l q (rw (place_at j l, place_at k q) at s))
-
--- an index below 2^m is its m digits
-index_same : (m i j : ℕ) → i < 2 ^ m → j < 2 ^ m → ((r : ℕ) → r < m → digit i r ≡ digit j r) → i ≡ j
-index_same m i j hi hj h = sym (mod-eq_of_lt hi) ∙ digits_same m i j h ∙ mod-eq_of_lt hj
 
 pub hammersley_is_net : (m : ℕ) → m ≤ 12 → IsNet m (hammersley_net m)
 hammersley_is_net m hm =

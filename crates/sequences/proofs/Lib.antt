@@ -1,4 +1,3 @@
-pub mod Coordinates
 pub mod Pascal
 pub mod Columns
 pub mod AreNets

@@ -1,8 +1,8 @@
 -- The points of Hammersley (1960), and of Sobol (1967) in the first two coordinates and in natural order.
-use Rattle.std.specs.Prelude.{ℕ, zero, suc, ◌+◌, ◌-◌, ◌*◌, ◌%◌, ◌^◌, List, map}
-use Rattle.std.specs.List.{range_with_len}
+use Rattle.std.specs.Prelude.{ℕ, zero, suc, ◌+◌, ◌-◌, ◌*◌, ◌%◌, ◌^◌, List}
 use Rattle.nets.specs.Digits.{digit, word}
 use Rattle.nets.specs.Places.{Place}
+use Rattle.nets.specs.Points.{points_of}
 use Rattle.nets.specs.Sums.{total}
 
 -- C(n, k), by Pascal's rule
@@ -23,10 +23,6 @@ sobol_bit m i k = total m (λ r. binomial r k * digit i r) % 2
 -- x is i's m binary digits in reverse order; the lower bits of y are 0
 abbrev pub sobol : (m i : ℕ) → Place
 sobol m i = (word m (digit i) * 2 ^ (16 - m), word m (sobol_bit m i) * 2 ^ (16 - m))
-
--- all points of level m
-abbrev pub points_of : (point : (m i : ℕ) → Place) (m : ℕ) → List Place
-points_of point m = map (point m) (range_with_len 0 (2 ^ m))
 
 abbrev pub hammersley_net : (m : ℕ) → List Place
 hammersley_net = points_of hammersley

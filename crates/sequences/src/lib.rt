@@ -1,4 +1,4 @@
-// The plans of Hammersley's points, and of Sobol's sequence in its first two coordinates.
+//! The plans of Hammersley's points, and of Sobol's sequence in its first two coordinates.
 #![tactic(auto)]
 
 pub mod hammersley;
@@ -9,5 +9,5 @@ pub mod sobol;
 pub use hammersley::{Hammersley, HammersleyPoints};
 pub use index::Index;
 pub use nets::LevelFault;
-pub use sequence::{Points, Sequence};
+pub use sequence::{PointFormula, Sequence};
 pub use sobol::{Sobol, SobolPoints};

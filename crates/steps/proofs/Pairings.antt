@@ -9,10 +9,11 @@ use Rattle.std.proofs.lemmas.List.Elements.{All-take, All-drop, All-weaker, All-
 use Rattle.std.proofs.lemmas.List.Sums.{sum_by-cons, sum_by-append}
 use Rattle.nets.specs.Places.{Place}
 use Rattle.coats.specs.declared.term.Term.{Term}
-use Rattle.coats.specs.Terms.{sum_of, share, coat, weight, Sides}
+use Rattle.coats.specs.declared.checks.TheConstants.{HEAVIEST}
+use Rattle.coats.specs.Terms.{sum_of, share_of, coat_of, weight_of, HasSides}
 use Rattle.coats.proofs.Sums.{sum_of_same, sum_of_map, sum_of_joined, all_joined, coat_light}
-use Rattle.steps.specs.declared.row.Step.{Step}
-use Rattle.steps.specs.Rows.{pairing, rise, steps_terms, StepBounds}
+use Rattle.steps.specs.declared.step.Step.{Step}
+use Rattle.steps.specs.Rows.{pairing, rise_of, steps_terms, HasStepBounds}
 
 abbrev pub no_step : Step
 no_step = record { value = pos 0; bound = 0 }
@@ -36,48 +37,48 @@ module _ {X : Type 0} (a : ℤ) (f : X → ℤ) where
   sum_of_times (x ∷ xs) = ap (λ z. a *ℤ f x +ℤ z) (sum_of_times xs) ∙ sym (times_sum a (f x) (sum_of f xs))
 
 module _ (x y : ℕ) (ys : List Step) where
-  one_step : (a : Step) → sum_of (share (x, y)) (map (pairing a) ys) ≡ sum_of (rise y) ys *ℤ rise x a
+  one_step : (a : Step) → sum_of (share_of (x, y)) (map (pairing a) ys) ≡ sum_of (rise_of y) ys *ℤ rise_of x a
   one_step a =
-      sum_of_map (pairing a) (share (x, y)) ys
-      ∙ sum_of_same _ (λ b. rise x a *ℤ rise y b) (λ b. both (ltb x a.bound) (ltb y b.bound) a.value b.value) ys
-      ∙ sum_of_times (rise x a) (rise y) ys
-      ∙ *ℤ_comm (rise x a) (sum_of (rise y) ys)
+      sum_of_map (pairing a) (share_of (x, y)) ys
+      ∙ sum_of_same _ (λ b. rise_of x a *ℤ rise_of y b) (λ b. both (ltb x a.bound) (ltb y b.bound) a.value b.value) ys
+      ∙ sum_of_times (rise_of x a) (rise_of y) ys
+      ∙ *ℤ_comm (rise_of x a) (sum_of (rise_of y) ys)
 
-  pub steps_coat : (xs : List Step) → coat (steps_terms xs ys) (x, y) ≡ sum_of (rise x) xs *ℤ sum_of (rise y) ys
+  pub steps_coat : (xs : List Step) → coat_of (steps_terms xs ys) (x, y) ≡ sum_of (rise_of x) xs *ℤ sum_of (rise_of y) ys
   steps_coat xs =
-      sum_of_joined (λ a. map (pairing a) ys) (share (x, y)) xs
-      ∙ sum_of_same _ (λ a. sum_of (rise y) ys *ℤ rise x a) one_step xs
-      ∙ sum_of_times (sum_of (rise y) ys) (rise x) xs
-      ∙ *ℤ_comm (sum_of (rise y) ys) (sum_of (rise x) xs)
+      sum_of_joined (λ a. map (pairing a) ys) (share_of (x, y)) xs
+      ∙ sum_of_same _ (λ a. sum_of (rise_of y) ys *ℤ rise_of x a) one_step xs
+      ∙ sum_of_times (sum_of (rise_of y) ys) (rise_of x) xs
+      ∙ *ℤ_comm (sum_of (rise_of y) ys) (sum_of (rise_of x) xs)
 
 abbrev size : Step → ℕ
 size s = nat_abs s.value
 
-one_weight : (a : Step) (ys : List Step) → weight (map (pairing a) ys) ≡ size a * sum_by size ys
+one_weight : (a : Step) (ys : List Step) → weight_of (map (pairing a) ys) ≡ size a * sum_by size ys
 one_weight a [] = omega arith
 one_weight a (b ∷ ys) =
     sum_by-cons (λ (t : Term). nat_abs t.w) (pairing a b) (map (pairing a) ys)
     ∙ (let p = unsigned_abs-mul a.value b.value in let q = mul-add (size a) (size b) (sum_by size ys) in let rest = one_weight a ys in rw (sum_by-cons size b ys) (omega arith))
 
-pub steps_weight : (xs ys : List Step) → weight (steps_terms xs ys) ≡ sum_by size xs * sum_by size ys
+pub steps_weight : (xs ys : List Step) → weight_of (steps_terms xs ys) ≡ sum_by size xs * sum_by size ys
 steps_weight [] ys = omega arith
 steps_weight (x ∷ xs) ys =
     sum_by-append (λ (t : Term). nat_abs t.w) (map (pairing x) ys) (steps_terms xs ys)
     ∙ (let one = one_weight x ys in let q = add-mul (size x) (sum_by size xs) (sum_by size ys) in let rest = steps_weight xs ys in rw (sum_by-cons size x xs) (omega arith))
 
-pub steps_sides : (xs ys : List Step) → All StepBounds (xs ++ ys) → All Sides (steps_terms xs ys)
+pub steps_sides : (xs ys : List Step) → All HasStepBounds (xs ++ ys) → All HasSides (steps_terms xs ys)
 steps_sides xs ys h =
-    let for_x : All StepBounds xs = subst (All StepBounds) (take-append_seam xs ys) (All-take StepBounds (length xs) (xs ++ ys) h) in
-    let for_y : All StepBounds ys = subst (All StepBounds) (drop-append_seam xs ys) (All-drop StepBounds (length xs) (xs ++ ys) h) in
-    let row : (a : Step) → StepBounds a → All Sides (map (pairing a) ys) = λ a k. All-map Sides (pairing a) ys (All-weaker StepBounds (λ b. Sides (pairing a b)) (λ b l. (k, l)) ys for_y) in
-    all_joined (λ a. map (pairing a) ys) Sides xs (All-weaker StepBounds (λ a. All Sides (map (pairing a) ys)) row xs for_x)
+    let for_x : All HasStepBounds xs = subst (All HasStepBounds) (take-append_seam xs ys) (All-take HasStepBounds (length xs) (xs ++ ys) h) in
+    let for_y : All HasStepBounds ys = subst (All HasStepBounds) (drop-append_seam xs ys) (All-drop HasStepBounds (length xs) (xs ++ ys) h) in
+    let row : (a : Step) → HasStepBounds a → All HasSides (map (pairing a) ys) = λ a k. All-map HasSides (pairing a) ys (All-weaker HasStepBounds (λ b. HasSides (pairing a b)) (λ b l. (k, l)) ys for_y) in
+    all_joined (λ a. map (pairing a) ys) HasSides xs (All-weaker HasStepBounds (λ a. All HasSides (map (pairing a) ys)) row xs for_x)
 
 -- the height along x times the height along y is the coat, and small
-pub heights : (xs ys : List Step) (p : Place) (a b : ℤ) → a ≡ sum_of (rise p.0) xs → b ≡ sum_of (rise p.1) ys → weight (steps_terms xs ys) ≤ 16384 → (a *ℤ b ≡ coat (steps_terms xs ys) p) × (nat_abs (a *ℤ b) ≤ 16384)
+pub heights : (xs ys : List Step) (p : Place) (a b : ℤ) → a ≡ sum_of (rise_of p.0) xs → b ≡ sum_of (rise_of p.1) ys → weight_of (steps_terms xs ys) ≤ HEAVIEST → (a *ℤ b ≡ coat_of (steps_terms xs ys) p) × (nat_abs (a *ℤ b) ≤ HEAVIEST)
 heights xs ys p a b x y light =
-    let is : a *ℤ b ≡ coat (steps_terms xs ys) p = rw (x, y) (sym (steps_coat p.0 p.1 ys xs)) in
+    let is : a *ℤ b ≡ coat_of (steps_terms xs ys) p = rw (x, y) (sym (steps_coat p.0 p.1 ys xs)) in
     (is, rw is (coat_light (steps_terms xs ys) p light))
 
 -- a height along x times a height along y fits its type, whatever the coordinates
-pub heights_fit : (xs ys : List Step) (at_x at_y : ℕ) (a b : ℤ) → a ≡ sum_of (rise at_x) xs → b ≡ sum_of (rise at_y) ys → weight (steps_terms xs ys) ≤ 16384 → SFits w32 (a *ℤ b)
+pub heights_fit : (xs ys : List Step) (at_x at_y : ℕ) (a b : ℤ) → a ≡ sum_of (rise_of at_x) xs → b ≡ sum_of (rise_of at_y) ys → weight_of (steps_terms xs ys) ≤ HEAVIEST → SFits w32 (a *ℤ b)
 heights_fit xs ys at_x at_y a b x y light = omega (arith, ints, heights xs ys (at_x, at_y) a b x y light)

@@ -1,26 +1,27 @@
-// Steps along x and steps along y, of which a map is made.
+//! Steps along x and steps along y, of which a map is made.
 ghost use Rattle.std.specs.Prelude.{◌≡◌, ◌≤◌, ◌++◌, length, All, sum_by, MatchOption, MatchResult, unsigned_abs};
-ghost use Rattle.coats.specs.Terms.{sum_of, coat as coated, weight as weighed};
-ghost use Rattle.coats.specs.Refusals.{FirstOut, OutOfBounds, map_told};
-ghost use Rattle.steps.specs.Rows.{StepBounds, rise, steps_terms};
+ghost use Rattle.coats.specs.declared.checks.TheConstants.{HEAVIEST};
+ghost use Rattle.coats.specs.Terms.{sum_of, coat_of, weight_of};
+ghost use Rattle.coats.specs.Refusals.{IsFirstOut, IsOutOfBounds, map_told};
+ghost use Rattle.steps.specs.declared.steps.TheConstants.{MOST_STEPS};
+ghost use Rattle.steps.specs.Rows.{HasStepBounds, rise_of, steps_terms};
 
-use crate::row::Step;
+use crate::step::Step;
 use coats::{Bounded, MapFault};
 use nets::Place;
 
-// At most 16 steps along one axis.
+// The steps along one axis.
 #[derive(Clone, Copy, Debug)]
 pub(crate) struct Axis<'a> {
     pub(crate) steps: &'a [Step],
-    ghost few: { length steps.now ≤ 16 },
+    ghost few: { length steps.now ≤ MOST_STEPS },
 }
 
 impl<'a> Axis<'a> {
     // What the steps add up to at a coordinate.
     pub(crate) fn height(self, at: u16) -> i32
-        ensures { result ≡ sum_of (rise at) self.entry.steps.now }
+        ensures { result ≡ sum_of (rise_of at) self.entry.steps.now }
     {
-        // A loop: a chain's signed sum leaves its bound open, and a function for all would require it.
         let mut sum = 0;
         for step in self.steps {
             sum += step.rise(at);
@@ -47,21 +48,21 @@ impl<'a> Axes<'a> {
     // 8 for the first step out of its bounds.
     pub(crate) fn check_bounds(self) -> Result<(), MapFault>
         ensures { MatchResult result
-            (λ _. All StepBounds (self.entry.x.steps.now ++ self.entry.y.steps.now))
-            (λ e. OutOfBounds StepBounds (self.entry.x.steps.now ++ self.entry.y.steps.now) (map_told e)) }
+            (λ _. All HasStepBounds (self.entry.x.steps.now ++ self.entry.y.steps.now))
+            (λ e.
+            IsOutOfBounds HasStepBounds (self.entry.x.steps.now ++ self.entry.y.steps.now) (map_told e)) }
     {
         match self.first_out() {
             None => Ok(()),
-            Some(row) => Err(MapFault::Row(row)),
+            Some(row) => Err(MapFault::Row(row as u8)),
         }
     }
 
-    // The number of the first step out of its bounds; those for y are numbered after those for x. Over
-    // both axes at once: by `first_out` of coats, which takes one slice, it would be longer.
+    // The number of the first step out of its bounds; those along y are numbered after those along x.
     fn first_out(self) -> Option<usize>
         ensures { MatchOption result
-            (All StepBounds (self.entry.x.steps.now ++ self.entry.y.steps.now))
-            (FirstOut StepBounds (self.entry.x.steps.now ++ self.entry.y.steps.now)) }
+            (All HasStepBounds (self.entry.x.steps.now ++ self.entry.y.steps.now))
+            (IsFirstOut HasStepBounds (self.entry.x.steps.now ++ self.entry.y.steps.now)) }
     {
         self.x
             .steps
@@ -73,7 +74,7 @@ impl<'a> Axes<'a> {
     // What the steps weigh: |g * h| added over the pairings.
     #[tactic(auto, using(crate::proofs::Pairings::steps_weight))]
     pub(crate) fn weigh(self) -> u64
-        ensures { result ≡ weighed (steps_terms self.entry.x.steps.now self.entry.y.steps.now) }
+        ensures { result ≡ weight_of (steps_terms self.entry.x.steps.now self.entry.y.steps.now) }
     {
         u64::from(self.x.magnitude()) * u64::from(self.y.magnitude())
     }
@@ -81,9 +82,9 @@ impl<'a> Axes<'a> {
     // The height along x times the height along y, which is the coat.
     #[tactic(auto, using(crate::proofs::Pairings::heights, crate::proofs::Pairings::heights_fit))]
     pub(crate) fn coat(self, place: Place) -> i32
-        requires { weighed (steps_terms self.x.steps.now self.y.steps.now) ≤ 16384 }
+        requires { weight_of (steps_terms self.x.steps.now self.y.steps.now) ≤ HEAVIEST }
         ensures { result
-            ≡ coated (steps_terms self.entry.x.steps.now self.entry.y.steps.now) place }
+            ≡ coat_of (steps_terms self.entry.x.steps.now self.entry.y.steps.now) place }
     {
         let (x, y) = place;
         self.x.height(x) * self.y.height(y)

@@ -1,10 +1,9 @@
-// Step maps: steps along x times steps along y.
+//! Step maps: steps along x times steps along y.
 #![tactic(auto)]
 
 mod axes;
-pub mod calls;
-pub mod map;
-pub mod row;
+pub mod step;
+pub mod steps;
 
-pub use map::{MOST_STEPS, Steps};
-pub use row::Step;
+pub use step::Step;
+pub use steps::{MOST_STEPS, Steps};

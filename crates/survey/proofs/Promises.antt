@@ -2,22 +2,22 @@
 use Rattle.std.proofs.Common.{◌≡◌, List, [], ◌∷◌, ◌++◌, Option, refl, sym, ap, ◌∙◌, subst}
 use Rattle.std.specs.List.Sorted.{IsPermutation}
 use Rattle.radius.specs.Radius.{Near, Agree}
-use Rattle.radius.proofs.Sums.{sums_agree}
-use Rattle.survey.specs.Recipes.{Recipe, IsRecipe}
+use Rattle.survey.specs.Setups.{Setup, IsSetup}
 use Rattle.survey.specs.Life.{Call, Answer, report, reported, answer, History, State, opening, after, state, IsStep, Lived}
 use Rattle.survey.specs.Runs.{Runs, opened, answered, barred}
 use Rattle.survey.specs.Promise.{Reported, terms_at, calls, answers, Kept, ComesTo, Continues, Lives}
 use Rattle.survey.proofs.Steps.{step_from, held_is}
-use Rattle.survey.proofs.Nears.{told, told_near}
+use Rattle.survey.proofs.Nears.{setups_agree, told, told_near}
 use Rattle.survey.proofs.Strikes.{strike}
 
-module _ (o : Recipe) where
+module _ (o : Setup) where
   lived_from : (l e : History) → Lived o (l ++ e) → Lived o e
   lived_from [] e h = h
   lived_from (x ∷ l) e h = lived_from l e h.0
 
-  report_lived : (h : History) → Lived o h → (x : Reported o h) → Lived o x.earlier × (reported x.m x.n x.s x.r ≡ answer (state o x.earlier) report)
-  report_lived h l x = let at = lived_from x.later _ (subst (Lived o) x.at l) in (at.0, at.1.answers)
+  report_is : (h : History) → Lived o h → (x : Reported o h) →
+      IsSetup (state o x.earlier).held × (reported x.m x.n x.s x.r ≡ answer (state o x.earlier) report)
+  report_is h l x = let at = lived_from x.later _ (subst (Lived o) x.at l) in (held_is o x.earlier at.0, at.1.answers)
 
   -- a life is what its calls run to
   run_of : (h : History) → Lived o h → Runs o (calls h) (answers h) h
@@ -36,23 +36,19 @@ module _ (o : Recipe) where
       (cc, cc)
   again ((c, b) ∷ h) (l, step) _ _ (barred _ rs g _ r bars) = let life = (again h l rs g r).0 in absurd (bars (rw life step.allowed))
 
-pub reports_near : (o : Recipe) (h : History) → Lived o h → (x : Reported o h) → Near x.m (terms_at x) x.s x.r
-reports_near o h l x =
-    let at = report_lived o h l x in
-    told_near (state o x.earlier) (held_is o x.earlier at.0) x.m x.n x.s x.r at.1
+pub reports_near : (o : Setup) (h : History) → Lived o h → (x : Reported o h) → Near x.m (terms_at x) x.s x.r
+reports_near o h l x = let at = report_is o h l x in told_near (state o x.earlier) at.0 x.m x.n x.s x.r at.1
 
-pub reports_agree : (o : Recipe) (h : History) → Lived o h → (o' : Recipe) (h' : History) → Lived o' h' → (x : Reported o h) (x' : Reported o' h') →
+pub reports_agree : (o : Setup) (h : History) → Lived o h → (o' : Setup) (h' : History) → Lived o' h' → (x : Reported o h) (x' : Reported o' h') →
     IsPermutation (terms_at x) (terms_at x') → Agree x.m x'.m x.s x'.s x.r x'.r
 reports_agree o h l o' h' l' x x' same =
-    let at = report_lived o h l x in
-    let at' = report_lived o' h' l' x' in
+    let at = report_is o h l x in
+    let at' = report_is o' h' l' x' in
     let s = state o x.earlier in
     let s' = state o' x'.earlier in
-    let is = held_is o x.earlier at.0 in
-    let is' = held_is o' x'.earlier at'.0 in
     let e = told s x.m x.n x.s x.r at.1 in
     let e' = told s' x'.m x'.n x'.s x'.r at'.1 in
-    rw (e.0, e.1, e.2, e'.0, e'.1, e'.2) (sums_agree _ s.taken s.held.plan.places s.held.map.terms _ s'.taken s'.held.plan.places s'.held.map.terms is.plan is.map is'.plan is'.map same)
+    rw (e.0, e.1, e.2, e'.0, e'.1, e'.2) (setups_agree s.held s'.held at.0 at'.0 s.taken s'.taken same)
 
 pub promise : Kept
 promise o h l =
@@ -60,7 +56,7 @@ promise o h l =
     record {
       lived = l;
       near = reports_near o h l;
-      is_map = λ x. (held_is o x.earlier (report_lived o h l x).0).map;
+      is_map = λ x. (report_is o h l x).0.map;
       rest = g.0;
       strikes = g.1;
       rest_lived = g.2;
@@ -70,7 +66,7 @@ promise o h l =
       agrees = λ o' h' l'. reports_agree o h l o' h' l';
     }
 
-pub begins : (o : Recipe) → IsRecipe o → ComesTo o [] (opening o)
+pub begins : (o : Setup) → IsSetup o → ComesTo o [] (opening o)
 begins o is = record { promise = promise o [] is; here = refl }
 
 pub continues : (c : Call) (a : Answer) (from to : State) → IsStep c a from to → Continues c a from to

@@ -1,11 +1,12 @@
 -- A log, one call after another.
 use Rattle.std.proofs.Common.{◌≡◌, List, [], ◌∷◌, ◌++◌, map, reverse, Some, None, Option, ap, ◌∙◌}
+use Rattle.std.specs.Option.{option_map}
 use Rattle.std.proofs.lemmas.List.{map_push, reverse-append}
 use Rattle.nets.specs.declared.net.Net.{Ghosts as Nets}
 use Rattle.coats.specs.declared.coat_map.CoatMap.{Ghosts as Maps}
-use Rattle.survey.specs.Gauges.{told, asked, gauge_state, Asks, AskSteps, AskLives}
+use Rattle.survey.specs.Gauges.{answer_of, call_of, gauge_state, Asks, AskSteps, AskLives}
 use Rattle.survey.specs.Runs.{opened, answered, barred}
-use Rattle.survey.specs.Logs.{may_tell, IsRun}
+use Rattle.survey.specs.Logs.{IsRun}
 use Rattle.survey.specs.Surveys.{Opens}
 use Rattle.survey.specs.declared.call.Answer.{Answer}
 use Rattle.survey.specs.declared.call.Call.{Call}
@@ -22,14 +23,14 @@ reverse_push f xs x = ap reverse (map_push f xs x) ∙ reverse-append (map f xs)
 module _ {P M : Type 0} {nets : Nets P} {maps : Maps M} (g : Gauge P M nets maps) (c : Call P M) where
   steps_live : (a : Option Answer) (to : Gauge P M nets maps) → AskSteps g c (record { gauge = to; answer = a }) → AskLives g c (record { gauge = to; answer = a })
   steps_live None to bars = tt
-  steps_live (Some a) to step = continues (asked nets maps c) (told a) (gauge_state g) (gauge_state to) step
+  steps_live (Some a) to step = continues (call_of nets maps c) (answer_of a) (gauge_state g) (gauge_state to) step
 
   pub ask_lives : (r : After P M nets maps) → AskSteps g c r → AskLives g c r
   ask_lives r step = steps_live r.answer r.gauge step
 
 module _ {P M : Type 0} {nets : Nets P} {maps : Maps M} (p : P) (m : M) where
   pub run_none : (s : Survey P M nets maps) → Opens p m s → IsRun p m [] (at.Survey s) []
-  run_none s opens = record { life = []; runs = opened; comes = rw opens.state (begins _ opens.is_recipe) }
+  run_none s opens = record { life = []; runs = opened; comes = rw opens.state (begins _ opens.is_setup) }
 
   module _ (cs : List (Call P M)) (rs : List (Option Answer)) (g : Gauge P M nets maps) (c : Call P M) (run : IsRun p m cs g rs) where
     by_answer : (a : Option Answer) (to : Gauge P M nets maps) → Asks g c (record { gauge = to; answer = a }) → AskSteps g c (record { gauge = to; answer = a }) → AskLives g c (record { gauge = to; answer = a }) →
@@ -37,14 +38,14 @@ module _ {P M : Type 0} {nets : Nets P} {maps : Maps M} (p : P) (m : M) where
     by_answer None to rule bars _ =
         record {
           life = run.life;
-          runs = rw (reverse_push (asked nets maps) cs c, reverse_push may_tell rs None) (barred _ _ run.life (asked nets maps c) run.runs (rw run.comes.here bars));
+          runs = rw (reverse_push (call_of nets maps) cs c, reverse_push (option_map answer_of) rs None) (barred _ _ run.life (call_of nets maps c) run.runs (rw run.comes.here bars));
           comes = rw rule run.comes;
         }
     by_answer (Some b) to rule step lives =
         let next = lives _ run.life run.comes in
         record {
-          life = (asked nets maps c, told b) ∷ run.life;
-          runs = rw (reverse_push (asked nets maps) cs c, reverse_push may_tell rs (Some b)) (answered _ _ run.life (asked nets maps c) (told b) run.runs next.promise.lived.1);
+          life = (call_of nets maps c, answer_of b) ∷ run.life;
+          runs = rw (reverse_push (call_of nets maps) cs c, reverse_push (option_map answer_of) rs (Some b)) (answered _ _ run.life (call_of nets maps c) (answer_of b) run.runs next.promise.lived.1);
           comes = next;
         }
 

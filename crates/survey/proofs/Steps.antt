@@ -2,8 +2,8 @@
 use Rattle.std.proofs.Common.{◌≡◌, [], ◌∷◌, refl}
 use Rattle.std.proofs.lemmas.Bool.{cond_both}
 use Rattle.coats.specs.Terms.{IsMap}
-use Rattle.survey.specs.Recipes.{Recipe, IsPlan, IsRecipe}
-use Rattle.survey.specs.Life.{Call, begin, map_page, commit, abandon, Answer, accepts, History, Stage, survey, half, full, offered, State, effect_of, after, state, Allowed, BringsPage, IsStep, Lived}
+use Rattle.survey.specs.Setups.{Setup, IsPlan, IsSetup}
+use Rattle.survey.specs.Life.{Call, begin, map_page, commit, abandon, Answer, accepts, History, Stage, survey, half, full, offer_of, State, effect_of, after, state, Allowed, BringsPage, IsStep, Lived}
 
 -- a call and its answer, made again where the state is the same
 pub step_from : (c : Call) (a : Answer) (s to t : State) → t ≡ s → IsStep c a s to → IsStep c a t (after c a t)
@@ -16,9 +16,9 @@ ArePages (half p) = IsPlan p
 ArePages (full p t) = IsPlan p × IsMap t.terms
 
 IsSound : State → Type 0
-IsSound s = IsRecipe s.held × ArePages s.stage
+IsSound s = IsSetup s.held × ArePages s.stage
 
-offered_is : (q : Recipe) → IsRecipe q → (s : Stage) → ArePages s → IsRecipe (offered q s)
+offered_is : (q : Setup) → IsSetup q → (s : Stage) → ArePages s → IsSetup (offer_of q s)
 unfolding ArePages
 offered_is q is survey _ = is
 offered_is q is (half p) _ = is
@@ -34,13 +34,13 @@ effect_sound commit s ok page is = (offered_is s.held is.0 s.stage is.1, tt)
 effect_sound abandon s ok page is = (is.0, tt)
 effect_sound _ s ok page is = is
 
-sound : (o : Recipe) (h : History) → Lived o h → IsSound (state o h)
+sound : (o : Setup) (h : History) → Lived o h → IsSound (state o h)
 unfolding ArePages IsSound
 sound o [] l = (l, tt)
 sound o ((c, a) ∷ h) (l, step) =
     let is = sound o h l in
     cond_both (accepts a) _ _ IsSound (λ _. effect_sound c (state o h) step.allowed step.page is) (λ _. (is.0, tt))
 
-pub held_is : (o : Recipe) (h : History) → Lived o h → IsRecipe (state o h).held
+pub held_is : (o : Setup) (h : History) → Lived o h → IsSetup (state o h).held
 unfolding IsSound
 held_is o h l = (sound o h l).0

@@ -1,4 +1,4 @@
-pub mod Recipes
+pub mod Setups
 pub mod Life
 pub mod Strikes
 pub mod Runs

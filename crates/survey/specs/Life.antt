@@ -1,11 +1,13 @@
--- A survey's life: the calls that were made of it with what each answered, the newest first, and what it has come to.
+-- A survey's life: the calls that were made of it with what each answered, the newest first, and what
+-- it has come to.
 use Rattle.std.specs.Prelude.{⊤, ◌≡◌, ℕ, ◌+◌, Bool, true, false, if◌then◌else◌, List, [], ◌∷◌, ℤ, ◌==◌, nat_lt}
-use Rattle.nets.specs.Refusals.{Told, refused}
+use Rattle.refusals.specs.Told.{Told, refused}
 use Rattle.coats.specs.Terms.{IsMap}
-use Rattle.survey.specs.Recipes.{Plan, Map, Recipe, IsPlan, IsRecipe, left, coat_sum, cost, radius}
+use Rattle.survey.specs.declared.costs.TheConstants.{FIRST_LIMIT}
+use Rattle.survey.specs.Setups.{Plan, Map, Setup, IsPlan, IsSetup, left_of, coat_sum, cost_of, radius_of}
 
 pub data Call : Type 0 where
-  take : (k : ℕ) → Call
+  take_next : (k : ℕ) → Call
   report : Call
   set_limit : (l : ℕ) → Call
   begin : Plan → Call
@@ -41,15 +43,15 @@ pub data Stage : Type 0 where
 -- what a history has come to
 pub record State : Type 0 where
   pub stage : Stage
-  -- the recipe of opening, or of the last effect_of commit
-  pub held : Recipe
+  -- the recipe of opening, or of the last accepted commit
+  pub held : Setup
   -- L: that of opening, or of the last accepted limit
   pub limit : ℕ
   -- n: the total of k over the takes accepted since the held recipe came in
   pub taken : ℕ
 
-abbrev pub opening : Recipe → State
-opening o = record { stage = survey; held = o; limit = 212992; taken = 0 }
+abbrev pub opening : Setup → State
+opening o = record { stage = survey; held = o; limit = FIRST_LIMIT; taken = 0 }
 
 abbrev pub with_map : Map → Stage → Stage
 with_map t survey = survey
@@ -57,18 +59,18 @@ with_map t (half p) = full p t
 with_map t (full p u) = full p t
 
 -- the recipe that a commit would bring in, where there are pages for one
-abbrev pub offered : Recipe → Stage → Recipe
-offered old survey = old
-offered old (half p) = old
-offered old (full p t) = record { plan = p; map = t }
+abbrev pub offer_of : Setup → Stage → Setup
+offer_of old survey = old
+offer_of old (half p) = old
+offer_of old (full p t) = record { plan = p; map = t }
 
 -- what an accepted call makes of it
 abbrev pub effect_of : Call → State → State
-effect_of (take k) s = record s { taken = s.taken + k }
+effect_of (take_next k) s = record s { taken = s.taken + k }
 effect_of (set_limit l) s = record s { limit = l }
 effect_of (begin p) s = record s { stage = half p }
 effect_of (map_page t) s = record s { stage = with_map t s.stage }
-effect_of commit s = record s { stage = survey; held = offered s.held s.stage; taken = 0 }
+effect_of commit s = record s { stage = survey; held = offer_of s.held s.stage; taken = 0 }
 effect_of abandon s = record s { stage = survey }
 effect_of report s = s
 
@@ -76,31 +78,32 @@ effect_of report s = s
 abbrev pub after : Call → Answer → State → State
 after c a s = if accepts a then effect_of c s else record s { stage = survey }
 
-abbrev pub state : Recipe → History → State
+abbrev pub state : Setup → History → State
 state o [] = opening o
 state o ((c, a) ∷ h) = after c a (state o h)
 
 -- the rules: what a take of k answers after n places, a limit l, and a commit under the limit l
-abbrev pub on_take : Recipe → (n k : ℕ) → Answer
+abbrev pub on_take : Setup → (n k : ℕ) → Answer
 on_take q n k =
     if k == 0 then refusal (refused 21 (0 ∷ []))
-    else if nat_lt (left q.plan n) k then refusal (refused 22 (left q.plan n ∷ []))
+    else if nat_lt (left_of q.plan n) k then refusal (refused 22 (left_of q.plan n ∷ []))
     else counted (n + k)
 
-abbrev pub on_limit : Recipe → (l : ℕ) → Answer
-on_limit q l = if nat_lt l (cost q) then refusal (refused 23 (cost q ∷ [])) else limited
+abbrev pub on_limit : Setup → (l : ℕ) → Answer
+on_limit q l = if nat_lt l (cost_of q) then refusal (refused 23 (cost_of q ∷ [])) else limited
 
-abbrev pub on_commit : Recipe → (l : ℕ) → Answer
-on_commit q l = if nat_lt l (cost q) then refusal (refused 24 (cost q ∷ [])) else committed
+abbrev pub on_commit : Setup → (l : ℕ) → Answer
+on_commit q l = if nat_lt l (cost_of q) then refusal (refused 24 (cost_of q ∷ [])) else committed
 
 -- what a call answers
 abbrev pub answer : State → Call → Answer
-answer s (take k) = on_take s.held s.taken k
-answer s report = reported s.held.plan.level s.taken (coat_sum s.held s.taken) (radius s.held s.taken)
+answer s (take_next k) = on_take s.held s.taken k
+answer s report =
+    reported s.held.plan.level s.taken (coat_sum s.held s.taken) (radius_of s.held s.taken)
 answer s (set_limit l) = on_limit s.held l
 answer s (begin p) = begun
 answer s (map_page t) = paged
-answer s commit = on_commit (offered s.held s.stage) s.limit
+answer s commit = on_commit (offer_of s.held s.stage) s.limit
 answer s abandon = abandoned
 
 -- where a call is allowed
@@ -124,6 +127,6 @@ pub record IsStep (c : Call) (a : Answer) (from to : State) : Type 0 where
   pub leads : to ≡ after c a from
 
 -- a life from the opening on the recipe o: one call after another
-abbrev pub Lived : (o : Recipe) → History → Type 0
-Lived o [] = IsRecipe o
+abbrev pub Lived : (o : Setup) → History → Type 0
+Lived o [] = IsSetup o
 Lived o ((c, a) ∷ h) = Lived o h × IsStep c a (state o h) (state o ((c, a) ∷ h))

@@ -1,4 +1,4 @@
-// A change of recipe that has both its pages.
+//! A change of recipe that has both its pages.
 ghost use Rattle.std.specs.Prelude.{◌≡◌};
 
 use crate::costs::depth_cost;
@@ -7,7 +7,7 @@ use crate::survey::Survey;
 use coats::CoatMap;
 use nets::Net;
 
-/// A survey, and a new plan and a new map for it.
+/// A survey, and a new plan and a new map for it. The survey is kept whole.
 #[derive(Debug, Drop)]
 pub struct FullChange<P: Net, M: CoatMap> {
     pub(crate) old: Survey<P, M>,
@@ -15,19 +15,23 @@ pub struct FullChange<P: Net, M: CoatMap> {
     pub(crate) map: M,
 }
 
-/// What a commit gives: a survey of the new recipe, or the old survey, entire. A survey comes out either
-/// way, so it stands beside the outcome and not in each case.
+/// What a commit gives.
 #[derive(Debug, Drop)]
 pub struct Committed<P: Net, M: CoatMap> {
+    /// A survey of the new recipe, or, if the commit is refused, the old survey, entire.
     pub survey: Survey<P, M>,
+    /// Whether the commit is accepted, or why not.
     pub outcome: Result<(), CommitFault>,
 }
 
 impl<P: Net + Drop, M: CoatMap + Drop> FullChange<P, M> {
     ghost use Rattle.survey.specs.Changes.{full_state, Commits, CommitSteps, AbandonSteps};
 
-    /// A survey of the new recipe with nothing taken; or, with 24, the old one, entire, if the depths of the
-    /// new recipe cost more than the limit.
+    /// Puts the new recipe in the old one's place: a survey of it with no place taken and the same limit.
+    ///
+    /// # Errors
+    /// 24 where the depths of the new recipe cost more than the limit; the old survey, entire, stands beside
+    /// it.
     pub fn commit(self) -> Committed<P, M>
         ensures rule { Commits self result }
         ensures step { CommitSteps self result }
@@ -55,7 +59,7 @@ impl<P: Net + Drop, M: CoatMap + Drop> FullChange<P, M> {
         }
     }
 
-    /// The old survey, entire.
+    /// Gives the change up: the old survey, entire.
     pub fn abandon(self) -> Survey<P, M>
         ensures rule { result ≡ self.old }
         ensures step { AbandonSteps (full_state self) result }

@@ -1,4 +1,4 @@
-// A survey whose calls come as values, one by one, at run time.
+//! A survey whose calls come as values, one by one, at run time.
 ghost use Rattle.std.specs.Prelude.{◌≡◌, Some};
 
 use crate::call::{Answer, Call};
@@ -11,15 +11,20 @@ use nets::Net;
 /// A survey, or the change that is made of it.
 #[derive(Debug, Drop)]
 pub enum Gauge<P: Net, M: CoatMap> {
+    /// A survey; no change is under way.
     Survey(Survey<P, M>),
+    /// A change that has its new plan.
     Half(HalfChange<P, M>),
+    /// A change that has its new plan and its new map.
     Full(FullChange<P, M>),
 }
 
-/// The gauge after a call, and the answer, if the call was allowed.
+/// What a call gives.
 #[derive(Debug, Drop)]
 pub struct After<P: Net, M: CoatMap> {
+    /// The gauge after the call.
     pub gauge: Gauge<P, M>,
+    /// The answer, if the call was allowed.
     pub answer: Option<Answer>,
 }
 

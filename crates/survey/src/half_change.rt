@@ -1,4 +1,4 @@
-// A change of recipe that has its new plan. Until a change is committed the old survey is kept whole.
+//! A change of recipe that has its new plan.
 ghost use Rattle.std.specs.Prelude.{◌≡◌};
 
 use crate::full_change::FullChange;
@@ -6,7 +6,7 @@ use crate::survey::Survey;
 use coats::CoatMap;
 use nets::Net;
 
-/// A survey and a new plan for it.
+/// A survey and a new plan for it. The survey is kept whole.
 #[derive(Debug, Drop)]
 pub struct HalfChange<P: Net, M: CoatMap> {
     pub(crate) old: Survey<P, M>,
@@ -26,7 +26,7 @@ impl<P: Net + Drop, M: CoatMap + Drop> HalfChange<P, M> {
         FullChange { old, plan, map }
     }
 
-    /// The old survey, entire.
+    /// Gives the change up: the old survey, entire.
     pub fn abandon(self) -> Survey<P, M>
         ensures rule { result ≡ self.old }
         ensures step { AbandonSteps (half_state self) result }

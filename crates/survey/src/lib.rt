@@ -1,4 +1,4 @@
-// A survey: the coat of a map, added over the places of a plan.
+//! Surveys: the coat of a map, added over the places of a plan.
 #![tactic(auto)]
 
 pub mod call;
@@ -10,11 +10,11 @@ pub mod half_change;
 pub mod laws;
 pub mod log;
 pub mod report;
-mod sums;
+pub mod sums;
 pub mod survey;
 
 pub use call::{Answer, Call};
-pub use costs::{depth_cost, places_left, radius};
+pub use costs::{FIRST_LIMIT, WIDEST_RADIUS, depth_cost, places_left, radius};
 pub use faults::{CommitFault, LimitFault, TakeFault};
 pub use full_change::{Committed, FullChange};
 pub use gauge::{After, Gauge};
@@ -22,4 +22,5 @@ pub use half_change::HalfChange;
 pub use laws::{show_agreement, show_near, show_promise};
 pub use log::{Run, replay, run_log};
 pub use report::Report;
+pub use sums::sum_coats;
 pub use survey::Survey;

@@ -1,4 +1,4 @@
-// A gauge's log, run again.
+//! A gauge's log, run again.
 ghost use Rattle.survey.specs.Logs.{RunsLog, Replays};
 
 use crate::call::{Answer, Call};
@@ -8,15 +8,17 @@ use coats::CoatMap;
 use nets::Net;
 use std::alloc::{AllocError, Global};
 
-/// The gauge at the end of a log, and what each call answered, or nothing if it was not allowed.
+/// What a log comes to.
 #[derive(Debug, Drop)]
 pub struct Run<P: Net, M: CoatMap> {
+    /// The gauge at the end.
     pub gauge: Gauge<P, M>,
+    /// What each call answered, in order, or nothing if it was not allowed.
     pub answers: Vec<Option<Answer>>,
 }
 
-/// Opens a survey and makes the calls one after another. Memory for the answers is got before the first
-/// call.
+/// Opens a survey and makes the calls of a log one after another. Memory for the answers is got before the
+/// first call.
 ///
 /// # Errors
 /// Want of memory, of a log that is not empty; no call is made then.
@@ -38,10 +40,10 @@ pub fn run_log<P: Net + Drop, M: CoatMap + Drop>(
     Ok(Run { gauge, answers })
 }
 
-/// The answers of a log.
+/// The answers of a log, as [`run_log`] has them.
 ///
 /// # Errors
-/// As of [`run_log`].
+/// Want of memory, of a log that is not empty; no call is made then.
 pub fn replay<P: Net + Drop, M: CoatMap + Drop>(
     heap: Global,
     plan: P,

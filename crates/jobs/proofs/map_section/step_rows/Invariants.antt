@@ -1,7 +1,6 @@
-use Rattle.std.proofs.Common.{◌≡◌, map}
-use Rattle.std.specs.List.{range_with_len}
-use Rattle.jobs.specs.Layout.{step_at}
+use Rattle.std.proofs.Common.{◌≡◌}
+use Rattle.jobs.specs.Layout.{steps_in}
 use Rattle.jobs.proofs.map_section.step_rows.Given as goal
 
 abbrev pub invariant-loop-i : goal.invariant-loop-i
-invariant-loop-i l = l.rows.items ≡ map (step_at l.bytes) (range_with_len l.first l.i)
+invariant-loop-i l = l.rows.items ≡ steps_in l.bytes l.first l.i

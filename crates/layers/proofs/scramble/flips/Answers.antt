@@ -18,7 +18,7 @@ module _ (w x : ℕ) where
 
 pub returns : goal.returns
 returns c =
-    let w : ℕ = c.args.word in
+    let w : ℕ = c.args.bits in
     let x : ℕ = c.args.x in
     let value : c.fold.result ≡ word 6 (flip w x) = fold_from_yields_List _ (more w x) 0 _ c.fold.ensures.ran (YieldsList-from_range 0 6 6 (cc) refl) (λ n k r q call. search rules) ∙ six w x in
     record { value = value; bound = rw value (word_below 6 (flip w x) (flip_bits w x 6)) }

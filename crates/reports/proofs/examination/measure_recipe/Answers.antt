@@ -1,5 +1,5 @@
 use Rattle.std.proofs.Common.{sym}
-use Rattle.reports.proofs.Layered.{swap_or_not}
+use Rattle.layers.proofs.Chosen.{swap_or_not}
 use Rattle.reports.proofs.examination.measure_recipe.Goals as goal
 
 pub returns : goal.returns

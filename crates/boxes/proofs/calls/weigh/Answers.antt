@@ -1,6 +1,0 @@
-use Rattle.std.proofs.Common.{rules}
-use Rattle.boxes.proofs.Corners.{boxes_weight}
-use Rattle.boxes.proofs.calls.weigh.Goals as goal
-
-pub returns : goal.returns
-returns c = search (rules, boxes_weight)
