@@ -1,4 +1,5 @@
-pub mod Jobs
+pub mod Commands
 pub mod Kinds
 pub mod Lines
+pub mod Sessions
 pub mod Texts

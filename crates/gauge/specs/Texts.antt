@@ -2,33 +2,26 @@
 use Rattle.std.specs.Prelude.{ℕ, List, [], ◌∷◌, Ok, Err, codes, decimal}
 use Rattle.std.specs.Fmt.{signed_decimal}
 use Rattle.refusals.specs.Texts.{text_of}
-use Rattle.nets.specs.Refusals.{level_text}
-use Rattle.audit.specs.Refusals.{audit_text}
-use Rattle.coats.specs.Refusals.{map_text}
-use Rattle.jobs.specs.Refusals.{job_told, told_text}
+use Rattle.pages.specs.Faults.{fault_text as page_text}
 use Rattle.survey.specs.Refusals.{take_text, limit_text, commit_text}
 use Rattle.survey.specs.declared.call.Answer.{Answer}
 use Rattle.survey.specs.declared.call.Answer.TheVariants.{Taken, Reported, Limited, Begun, Paged, Committed, Abandoned}
+use Rattle.gauge.specs.declared.lines.TheConstants.{LONGEST_LINE, MOST_BYTES}
 use Rattle.gauge.specs.declared.unreadable.Unreadable.{Unreadable}
-use Rattle.gauge.specs.declared.unreadable.Unreadable.TheVariants.{TooLong, Unknown, NotOpen, Open, Words, File, Job, Level, Points, Map, PlanKind, MapKind, Memory}
+use Rattle.gauge.specs.declared.unreadable.Unreadable.TheVariants.{Endless, TooLong, Unknown, NotOpen, Open, PlanKind, MapKind, Page}
 use Rattle.gauge.specs.declared.reply.Reply.{Reply}
 use Rattle.gauge.specs.declared.reply.Reply.TheVariants as of_reply
 
 -- why a line makes no call
 abbrev pub fault_text : Unreadable → List ℕ
-fault_text TooLong = codes "more than 65535 bytes"
+fault_text Endless = text_of (codes "more than " ∷ decimal MOST_BYTES ∷ codes " bytes" ∷ [])
+fault_text TooLong = text_of (codes "more than " ∷ decimal LONGEST_LINE ∷ codes " bytes" ∷ [])
 fault_text Unknown = codes "unknown command"
 fault_text NotOpen = codes "no recipe is open"
 fault_text Open = codes "a recipe is open"
-fault_text Words = codes "cannot read its words"
-fault_text File = codes "cannot read the file"
-fault_text (Job e) = told_text (job_told e)
-fault_text (Level e) = level_text e
-fault_text (Points e) = audit_text e
-fault_text (Map e) = map_text e
 fault_text PlanKind = codes "another kind of plan"
 fault_text MapKind = codes "another kind of map"
-fault_text Memory = codes "out of memory"
+fault_text (Page e) = page_text e
 
 -- what a call's answer tells
 abbrev pub answer_text : Answer → List ℕ

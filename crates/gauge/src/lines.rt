@@ -1,89 +1,135 @@
-//! The lines of the input, and their caps.
-ghost use Rattle.std.specs.Prelude.{◌≡◌, ◌≤◌, ◌<◌, ◌↔◌, Some, length};
+//! The lines of the input, read one at a time.
+ghost use Rattle.std.specs.Prelude.{◌≤◌, IfOk, vec_len};
+ghost use Rattle.gauge.specs.Lines.{IsLine};
 
-use std::str;
+use std::alloc::Global;
+use std::io::{BufRead, Read};
+use std::{io, str};
 
-/// The most bytes that are read.
-pub const MOST_BYTES: usize = 4194304;
-
-/// The most lines.
-pub const MOST_LINES: usize = 16384;
-
-/// The most bytes of a line.
+/// The most bytes of a line that is carried out, without its line feed.
 pub const LONGEST_LINE: usize = 65535;
 
-/// A line of the input.
+/// The most bytes of any line, without its line feed. A longer one ends the run.
+pub const MOST_BYTES: usize = 4194304;
+
+// How many bytes are read at a time: the longest line with its line feed. The most bytes are 64 parts.
+const PART: usize = LONGEST_LINE + 1;
+
+/// What the input has next.
+#[derive(Clone, Copy, Debug, PartialEq, Eq)]
+pub enum Next {
+    /// A line.
+    Line,
+    /// A line of more than 4,194,304 bytes, the rest of which is not read.
+    Endless,
+    /// No more.
+    End,
+}
+
+/// An input, line by line.
+#[derive(Drop)]
+pub struct Lines<I> {
+    input: I,
+    // The line that was read last, up to the first byte past the longest.
+    line: Vec<u8>,
+    // A later part of a line that is too long.
+    rest: Vec<u8>,
+}
+
+impl<I: BufRead> Lines<I> {
+    // The lines of an input, before the first.
+    pub(crate) fn new(heap: Global, input: I) -> Lines<I> {
+        Lines {
+            input,
+            line: Vec::new(heap),
+            rest: Vec::new(heap),
+        }
+    }
+
+    // Reads the next line. Of one that is too long no more is kept than shows it.
+    pub(crate) fn next(&mut self) -> io::Result<Next>
+        ensures { IfOk result (λ _. vec_len self.new.line ≤ PART) }
+    {
+        if !read_part(&mut self.input, &mut self.line)? {
+            return skip_rest(&mut self.input, &mut self.rest);
+        }
+        if self.line.is_empty() {
+            return Ok(Next::End);
+        }
+        if self.line.ends_with(b"\n") {
+            self.line.pop();
+        }
+        Ok(Next::Line)
+    }
+
+    // What stands in the line that was read last.
+    pub(crate) fn line(&self) -> Line<'_>
+        ensures { IsLine self.now.line.items result }
+    {
+        Line::of(&self.line)
+    }
+}
+
+// Reads a part of a line, up to its line feed if that is in it, and answers whether the line ends there.
+fn read_part<I: BufRead>(input: &mut I, part: &mut Vec<u8>) -> io::Result<bool>
+    ensures { IfOk result (λ _. vec_len part.new ≤ PART) }
+{
+    part.clear();
+    let mut limited = input.take(PART as u64);
+    limited.read_until(b'\n', part)?;
+    // No more than the limit can have come, which the contract of `read_until` leaves open.
+    part.truncate(PART);
+    Ok(part.len() < PART || part.ends_with(b"\n"))
+}
+
+// Passes over the rest of a line, of which one part was read.
+fn skip_rest<I: BufRead>(input: &mut I, part: &mut Vec<u8>) -> io::Result<Next> {
+    for _ in 1..MOST_BYTES / PART {
+        if read_part(input, part)? {
+            return Ok(Next::Line);
+        }
+    }
+    end_of_line(input)
+}
+
+// Passes over the line feed, if a line ends here or the input does.
+fn end_of_line<I: BufRead>(input: &mut I) -> io::Result<Next> {
+    let end = match input.fill_buf()?.first() {
+        None => return Ok(Next::Line),
+        Some(byte) => *byte == b'\n',
+    };
+    if !end {
+        return Ok(Next::Endless);
+    }
+    input.consume(1);
+    Ok(Next::Line)
+}
+
+/// What stands in a line.
 #[derive(Clone, Copy, Debug)]
 pub enum Line<'a> {
-    /// Empty, or a remark.
+    /// Nothing, or a remark.
     Passed,
     /// More than 65,535 bytes.
     TooLong,
-    /// Not UTF-8.
+    /// Bytes that are not UTF-8.
     NotText,
-    /// Its text.
+    /// A text.
     Text(&'a str),
 }
 
-/// What the input has too much of.
-#[derive(Clone, Copy, Debug, PartialEq, Eq)]
-pub enum Cap {
-    /// More than 4,194,304 bytes.
-    Bytes,
-    /// More than 16,384 lines.
-    Lines,
-}
-
-pub(crate) fn line_of(bytes: &[u8]) -> Line<'_> {
-    if bytes.is_empty() || bytes.starts_with(b"#") {
-        Line::Passed
-    } else if bytes.len() > LONGEST_LINE {
-        Line::TooLong
-    } else {
-        match str::from_utf8(bytes) {
-            Ok(text) => Line::Text(text),
-            Err(_) => Line::NotText,
+impl Line<'_> {
+    // What stands in the bytes of a line.
+    pub(crate) fn of(bytes: &[u8]) -> Line<'_>
+        ensures { IsLine bytes.now result }
+    {
+        match bytes {
+            [] | [b'#', ..] => Line::Passed,
+            _ if bytes.len() > LONGEST_LINE => Line::TooLong,
+            _ => match str::from_utf8(bytes) {
+                Ok(text) => Line::Text(text),
+                Err(_) => Line::NotText,
+            },
         }
-    }
-}
-
-// The lines that end within the most bytes, if there are more bytes; else all.
-pub(crate) fn whole_lines(input: &[u8]) -> &[u8]
-    ensures { length result.now ≤ MOST_BYTES }
-{
-    match input.split_at_checked(MOST_BYTES) {
-        Some((kept, more)) if !more.is_empty() => up_to_end(kept),
-        _ => input,
-    }
-}
-
-// Up to the last end of a line.
-fn up_to_end(bytes: &[u8]) -> &[u8]
-    ensures { length result.now ≤ length bytes.now }
-{
-    match bytes.iter().rposition(|byte| *byte == b'\n') {
-        Some(end) => bytes.get(..end).unwrap_or(b""),
-        None => b"",
-    }
-}
-
-pub(crate) fn cap_of(input: &[u8]) -> Option<Cap>
-    ensures { (result ≡ Some Cap.Bytes) ↔ (MOST_BYTES < length input.now) }
-{
-    if input.len() > MOST_BYTES {
-        Some(Cap::Bytes)
-    } else if count_lines(input) > MOST_LINES {
-        Some(Cap::Lines)
-    } else {
-        None
-    }
-}
-
-// How many lines there are. What comes after the last end of a line is one more, if it is not empty.
-fn count_lines(input: &[u8]) -> usize {
-    let ends = input.iter().filter(|byte| **byte == b'\n').count();
-    match input.last() {
-        None | Some(b'\n') => ends,
-        Some(_) => ends.saturating_add(1),
     }
 }

@@ -19,7 +19,7 @@ pub enum Reply {
     /// The state does not allow the line's call.
     NotAllowed,
     /// The line of this number, from 1, makes no call.
-    Wrong(usize, Unreadable),
+    Wrong(u64, Unreadable),
 }
 
 impl From<Option<Answer>> for Reply {

@@ -1,161 +1,192 @@
-//! The commands of an input, gathered before the first of them is carried out.
-use crate::commands::{Kinds, Verb, read_call};
-use crate::lines::{Line, MOST_LINES, line_of, whole_lines};
-use crate::map_pages::read_map;
-use crate::plan_pages::{GaugePlan, PlanPage, read_plan};
+//! A session, line by line: the opening, and then the calls of a gauge.
+ghost use Rattle.std.specs.Prelude.{◌≡◌, IfOk, Some, None};
+ghost use Rattle.gauge.specs.Commands.{verb_of};
+ghost use Rattle.gauge.specs.Kinds.{IsOf};
+ghost use Rattle.gauge.specs.Sessions.{Answers, Hears, IsOpened, Obeys};
+
+use crate::commands::{Kinds, Verb};
+use crate::lines::Line;
 use crate::reply::Reply;
 use crate::unreadable::Unreadable;
+use hosts::Keeper;
 use maps::Map;
-use std::alloc::AllocError;
+use pages::{PageFault, PagePlan, PlanPage, read_map, read_plan};
+use std::alloc::{AllocError, Global};
 use std::rt::Files;
-use survey::{Answer, Call, replay};
+use survey::Call;
 
-// What a line is answered, as far as that is known before the calls are made.
-#[derive(Clone, Copy, Debug)]
-enum Due {
-    Now(Reply),
-    // What the call of this index answers.
-    Call(usize),
-}
-
-// The opening as far as it came, the calls, and what each line is answered.
+/// How far the opening came, and then the gauge.
 #[derive(Drop)]
-struct Session<'r, R> {
-    rt: &'r R,
-    plan: Option<PlanPage>,
-    map: Option<Map>,
-    calls: Vec<Call<GaugePlan, Map>>,
-    dues: Vec<Due>,
+pub enum Session {
+    /// Nothing is open.
+    New,
+    /// The opening has its plan.
+    Planned(PlanPage),
+    /// A recipe is open, with the kinds of its pages.
+    Open(Kinds, Keeper<PagePlan, Map>),
 }
 
-// What is answered to the lines of an input.
-pub(crate) fn replies<R: Files + AllocGlobal>(
-    rt: &R,
-    input: &[u8],
-) -> Result<Vec<Reply>, AllocError> {
-    let mut session = Session::new(rt);
-    let lines = whole_lines(input).split(|byte| *byte == b'\n');
-    for (before, line) in lines.take(MOST_LINES).enumerate() {
-        session.hear(before.saturating_add(1), line_of(line))?;
-    }
-    session.settle()
+/// The session after a line, and what the line is answered, if anything.
+#[derive(Drop)]
+pub struct Heard {
+    /// The session after the line.
+    pub session: Session,
+    /// The answer.
+    pub reply: Option<Reply>,
 }
 
-impl<'r, R: Files + AllocGlobal> Session<'r, R> {
-    fn new(rt: &'r R) -> Session<'r, R> {
-        Session {
-            rt,
-            plan: None,
-            map: None,
-            calls: Vec::new(rt.alloc()),
-            dues: Vec::new(rt.alloc()),
-        }
-    }
+/// The session after a command, and what the command is answered or why it makes no call.
+#[derive(Drop)]
+pub struct Obeyed {
+    /// The session after the command.
+    pub session: Session,
+    /// The answer.
+    pub outcome: Result<Reply, Unreadable>,
+}
 
-    // Notes what a line asks, or why it makes no call.
-    fn hear(&mut self, number: usize, line: Line<'_>) -> Result<(), AllocError> {
-        let due = match self.due_of(line) {
-            Ok(None) => return Ok(()),
-            Ok(Some(due)) => due,
-            Err(fault) if fault.is_memory() => return Err(AllocError),
-            Err(fault) => Due::Now(Reply::Wrong(number, fault)),
-        };
-        self.dues.push(due)?;
-        Ok(())
-    }
-
-    fn due_of(&mut self, line: Line<'_>) -> Result<Option<Due>, Unreadable> {
+impl Session {
+    // Answers the line of a number. Want of memory ends the run.
+    pub(crate) fn hear<R: Files + AllocGlobal>(
+        self,
+        rt: &R,
+        number: u64,
+        line: Line<'_>,
+    ) -> Result<Heard, AllocError>
+        ensures session { IfOk result (λ h. Hears number self h.reply h.session) }
+        ensures answer { IfOk result (λ h. Answers number line.entry h.reply) }
+    {
         match line {
-            Line::Passed => Ok(None),
-            Line::TooLong => Err(Unreadable::TooLong),
-            Line::NotText => Err(Unreadable::Words),
-            Line::Text(text) => self.due_of_text(text),
+            Line::Passed => Ok(Heard::passed(self)),
+            Line::TooLong => Ok(Heard::wrong(self, number, Unreadable::TooLong)),
+            Line::NotText => Ok(Heard::wrong(self, number, Unreadable::Page(PageFault::Words))),
+            Line::Text(text) => self.hear_text(rt, number, text),
         }
     }
 
-    // A line of spaces has no words, and is passed over.
-    fn due_of_text(&mut self, text: &str) -> Result<Option<Due>, Unreadable> {
-        let words: Vec<&str> = text
-            .split(' ')
-            .filter(|word| !word.is_empty())
-            .collect(self.rt.alloc())?;
+    fn hear_text<R: Files + AllocGlobal>(
+        self,
+        rt: &R,
+        number: u64,
+        text: &str,
+    ) -> Result<Heard, AllocError>
+        ensures { IfOk result (λ h. Hears number self h.reply h.session) }
+    {
+        let words = words_of(rt.alloc(), text)?;
         match words.as_slice() {
-            [] => Ok(None),
-            [verb, words @ ..] => {
-                let verb = Verb::read(verb)?;
-                let due = self.due_of_command(verb, words)?;
-                Ok(Some(due))
-            }
+            [] => Ok(Heard::passed(self)),
+            [word, words @ ..] => match Verb::read(word) {
+                Ok(verb) => self.carry_out(rt, verb, words).reply(number),
+                Err(fault) => Ok(Heard::wrong(self, number, fault)),
+            },
         }
     }
 
-    fn due_of_command(&mut self, verb: Verb, words: &[&str]) -> Result<Due, Unreadable> {
-        match (verb, self.kinds()) {
-            (_, Some(kinds)) => self.call(kinds, verb, words),
-            (Verb::Open, None) => self.open(words),
-            (Verb::Map, None) => self.open_map(words),
-            _ => Err(Unreadable::NotOpen),
+    // Carries out a command.
+    fn carry_out<R: Files + AllocGlobal>(self, rt: &R, verb: Verb, words: &[&str]) -> Obeyed
+        ensures { Obeys verb self result }
+    {
+        match (self, verb) {
+            (Session::New, Verb::Open) => match read_plan(rt, words) {
+                Ok(page) => Obeyed::new(Session::Planned(page), Reply::Plan),
+                Err(fault) => Session::New.refuse(fault.into()),
+            },
+            (Session::Planned(page), Verb::Map) => match read_map(rt, words) {
+                Ok(map) => Obeyed::new(Session::open(page, map), Reply::Opened),
+                Err(fault) => Session::Planned(page).refuse(fault.into()),
+            },
+            (Session::Planned(page), Verb::Open) => Session::Planned(page).refuse(Unreadable::Open),
+            (Session::Open(kinds, keeper), verb) => match kinds.read_call(rt, verb, words) {
+                Ok(call) => Obeyed::ask(kinds, keeper, call),
+                Err(fault) => Session::Open(kinds, keeper).refuse(fault),
+            },
+            (session, _) => session.refuse(Unreadable::NotOpen),
         }
     }
 
-    // The kinds of the opening, once it is complete.
-    fn kinds(&self) -> Option<Kinds> {
-        match (&self.plan, &self.map) {
-            (Some(page), Some(map)) => Some(Kinds {
-                plan: page.kind,
-                map: map.kind(),
-            }),
-            _ => None,
+    // A command that makes no call.
+    fn refuse(self, fault: Unreadable) -> Obeyed
+        ensures { result ≡ record { session = self; outcome = Err fault } }
+    {
+        Obeyed {
+            session: self,
+            outcome: Err(fault),
         }
     }
 
-    fn open(&mut self, words: &[&str]) -> Result<Due, Unreadable> {
-        if self.plan.is_some() {
-            return Err(Unreadable::Open);
-        }
-        let page = read_plan(self.rt, words, None)?;
-        self.plan = Some(page);
-        Ok(Due::Now(Reply::Plan))
-    }
-
-    fn open_map(&mut self, words: &[&str]) -> Result<Due, Unreadable> {
-        if self.plan.is_none() {
-            return Err(Unreadable::NotOpen);
-        }
-        let map = read_map(self.rt, words, None)?;
-        self.map = Some(map);
-        Ok(Due::Now(Reply::Opened))
-    }
-
-    fn call(&mut self, kinds: Kinds, verb: Verb, words: &[&str]) -> Result<Due, Unreadable> {
-        let call = read_call(self.rt, kinds, verb, words)?;
-        let index = self.calls.len();
-        self.calls.push(call)?;
-        Ok(Due::Call(index))
-    }
-
-    // Makes the calls, if the opening is complete, and answers every line.
-    fn settle(self) -> Result<Vec<Reply>, AllocError> {
-        let Session {
-            rt,
-            plan,
-            map,
-            calls,
-            dues,
-        } = self;
-        let answers = match (plan, map) {
-            (Some(page), Some(map)) => replay(rt.alloc(), page.plan, map, calls)?,
-            _ => Vec::new(rt.alloc()),
+    // Opens a survey.
+    fn open(page: PlanPage, map: Map) -> Session
+        ensures { IsOpened (Session.Planned page) result }
+    {
+        let kinds = Kinds {
+            plan: page.kind,
+            map: map.kind(),
         };
-        dues.iter()
-            .map(|due| reply_of(*due, &answers))
-            .collect(rt.alloc())
+        Session::Open(kinds, Keeper::open(page.plan, map))
     }
 }
 
-fn reply_of(due: Due, answers: &[Option<Answer>]) -> Reply {
-    match due {
-        Due::Now(reply) => reply,
-        Due::Call(index) => Reply::from(answers.get(index).copied().flatten()),
+impl Heard {
+    // A line with no answer.
+    fn passed(session: Session) -> Heard
+        ensures { result ≡ record { session = session; reply = None } }
+    {
+        Heard {
+            session,
+            reply: None,
+        }
     }
+
+    // A line that makes no call.
+    fn wrong(session: Session, number: u64, fault: Unreadable) -> Heard
+        ensures { result ≡ record { session = session; reply = Some (Reply.Wrong number fault) } }
+    {
+        Heard {
+            session,
+            reply: Some(Reply::Wrong(number, fault)),
+        }
+    }
+}
+
+impl Obeyed {
+    fn new(session: Session, reply: Reply) -> Obeyed
+        ensures { result ≡ record { session = session; outcome = Ok reply } }
+    {
+        Obeyed {
+            session,
+            outcome: Ok(reply),
+        }
+    }
+
+    // Asks the gauge a call of the kinds that were opened.
+    #[tactic(auto, using(crate::proofs::Asked::asked))]
+    fn ask(kinds: Kinds, keeper: Keeper<PagePlan, Map>, call: Call<PagePlan, Map>) -> Obeyed
+        ensures { (v : Verb) → v ≡ verb_of call → IsOf kinds call
+            → Obeys v (Session.Open kinds keeper) result }
+    {
+        let (keeper, answer) = keeper.ask(call);
+        Obeyed::new(Session::Open(kinds, keeper), answer.into())
+    }
+
+    // What the line of a number is answered. Want of memory ends the run.
+    #[tactic(auto, using(crate::proofs::Asked::told))]
+    fn reply(self, number: u64) -> Result<Heard, AllocError>
+        ensures { IfOk result (λ h. (v : Verb) (old : Session) → Obeys v old self → Hears number old h.reply h.session) }
+    {
+        let Obeyed { session, outcome } = self;
+        match outcome {
+            Ok(reply) => Ok(Heard {
+                session,
+                reply: Some(reply),
+            }),
+            Err(Unreadable::Page(PageFault::Memory)) => Err(AllocError),
+            Err(fault) => Ok(Heard::wrong(session, number, fault)),
+        }
+    }
+}
+
+// The words of a line. A line of spaces has none.
+fn words_of(heap: Global, text: &str) -> Result<Vec<&str>, AllocError> {
+    text.split(' ')
+        .filter(|word| !word.is_empty())
+        .collect(heap)
 }

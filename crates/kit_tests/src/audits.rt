@@ -1,4 +1,4 @@
-// The audit of lists and of plans, and loading.
+//! The audit of lists and of plans, and loading.
 use audit::{AuditFault, NetBytes, NotNet, PlaceBytes, PointList, audit, audit_plan};
 use layers::{Scramble, Swap};
 use nets::{Level, Net, PlaceFault};

@@ -1,4 +1,4 @@
-// Box maps.
+//! Box maps.
 ghost use Rattle.std.specs.Prelude.{◌<◌, ◌≤◌};
 
 use boxes::{BoxRow, Boxes};

@@ -1,4 +1,4 @@
-// Cell maps, and maps whose kind is chosen at run time.
+//! Cell maps, and maps whose kind is chosen at run time.
 use boxes::{BoxRow, Boxes};
 use cells::Cells;
 use coats::{CoatMap, MapFault};

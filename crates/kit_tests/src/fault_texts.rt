@@ -1,4 +1,4 @@
-// The texts of faults, and the first byte of a row, worked by hand.
+//! The texts of faults, and the first byte of a row, worked by hand.
 use audit::{AuditFault, LoadFault};
 use coats::MapFault;
 use jobs::RowsAt;

@@ -1,4 +1,4 @@
-// Job files: faults by their types, the recipe that a refused job leaves, and the place for a text.
+//! Job files: faults by their types, the recipe that a refused job leaves, and the place for a text.
 use audit::NotNet;
 use coats::{CoatMap, MapFault};
 use jobs::{

@@ -1,4 +1,4 @@
-// Layers on plans.
+//! Layers on plans.
 use audit::audit;
 use layers::{MaybeSwap, Scramble, Shift, Swap};
 use nets::Net;

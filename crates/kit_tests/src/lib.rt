@@ -14,6 +14,8 @@ mod job_files;
 #[cfg(test)]
 mod layers_on_plans;
 #[cfg(test)]
+mod listings_of_plans;
+#[cfg(test)]
 mod outside;
 #[cfg(test)]
 mod points;

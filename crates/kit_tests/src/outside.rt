@@ -1,4 +1,4 @@
-// The Sobol points against numbers from elsewhere.
+//! The Sobol points against numbers from elsewhere.
 use nets::Net;
 use sequences::Sobol;
 use std::test::Fail;

@@ -1,4 +1,4 @@
-// The ends of the two sequences, worked by hand.
+//! The ends of the two sequences, worked by hand.
 use nets::{Net, PlaceFault};
 use sequences::{Hammersley, LevelFault, Sobol};
 use std::process::Abort;

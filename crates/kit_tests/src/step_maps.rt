@@ -1,4 +1,4 @@
-// Step maps.
+//! Step maps.
 use crate::box_maps::Outcome;
 use coats::{CoatMap, MapFault};
 use nets::Place;

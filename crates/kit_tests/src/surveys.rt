@@ -1,4 +1,4 @@
-// Surveys, their changes, replayed logs, and whole panels.
+//! Surveys, their changes, replayed logs, and whole panels.
 use boxes::{BoxRow, Boxes};
 use cells::Cells;
 use coats::MapFault;

@@ -10,3 +10,8 @@ abbrev pub Vets : List ℕ → Verdict → Type 0
 Vets bytes (Net a) = AuditsBytes bytes (Ok a)
 Vets bytes (Refused e) = (length bytes ≤ LONGEST_LIST) × AuditsBytes bytes (Err e)
 Vets bytes TooLong = LONGEST_LIST < length bytes
+
+-- the status that tells it: 0 for a net, 1 for a list that is none
+abbrev pub status_of : Verdict → ℕ
+status_of (Net _) = 0
+status_of _ = 1

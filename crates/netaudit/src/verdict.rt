@@ -1,7 +1,7 @@
 //! What is said of a list of places.
-ghost use Rattle.std.specs.Prelude.{Some};
+ghost use Rattle.std.specs.Prelude.{◌≡◌, Some};
 ghost use Rattle.netaudit.specs.Texts.{verdict_text};
-ghost use Rattle.netaudit.specs.Verdicts.{Vets};
+ghost use Rattle.netaudit.specs.Verdicts.{Vets, status_of};
 
 use audit::{AuditFault, NetBytes};
 use nets::MOST_PLACES;
@@ -31,6 +31,18 @@ pub fn vet(bytes: &[u8]) -> Verdict<'_>
     match NetBytes::audit(bytes) {
         Ok(net) => Verdict::Net(net),
         Err(fault) => Verdict::Refused(fault),
+    }
+}
+
+impl Verdict<'_> {
+    /// The status that the program ends with: 0 for a net, 1 for a list that is none.
+    pub fn status(&self) -> u8
+        ensures { result ≡ status_of self.now }
+    {
+        match self {
+            Verdict::Net(_) => 0,
+            Verdict::Refused(_) | Verdict::TooLong => 1,
+        }
     }
 }
 
