@@ -2,7 +2,7 @@
 ghost use Rattle.std.specs.Prelude.{◌≡◌, map};
 
 use crate::layer::Layer;
-use nets::{Level, Net, Place, PlaceFault};
+use nets::{Level, Net, Place, PlaceFault, Rounds};
 
 /// A plan with a layer on it, which is again a plan of the same level: each place mapped, in the same order.
 #[derive(Debug, Drop)]
@@ -38,5 +38,20 @@ impl<P: Net, L: Layer> Net for Layered<P, L> {
         self.show_net();
         let place = self.plan.place(i)?;
         Ok(self.layer.moved(place))
+    }
+}
+
+// A layer adds no rounds.
+impl<P: Rounds, L: Layer> Rounds for Layered<P, L> {
+    ghost counts = { λ l. P.counts l.plan };
+
+    fn counts_rounds(&self) -> bool {
+        self.plan.counts_rounds()
+    }
+
+    fn place_and_rounds(&self, i: u32) -> Result<(Place, Option<u32>), PlaceFault> {
+        self.show_net();
+        let (place, rounds) = self.plan.place_and_rounds(i)?;
+        Ok((self.layer.moved(place), rounds))
     }
 }

@@ -32,7 +32,7 @@ unfolding reverse_bits_onto
 reverse_bits_onto-word zero n a = omega arith
 reverse_bits_onto-word (suc k) n a = let rest = reverse_bits_onto-word k (n / 2) (a * 2 + n % 2) in let front = word-suc k n in grind (arith, add-mul, mul_assoc)
 
-no_digit : (m i r : ℕ) → i < 2 ^ m → m ≤ r → digit i r ≡ 0
+pub no_digit : (m i r : ℕ) → i < 2 ^ m → m ≤ r → digit i r ≡ 0
 no_digit m i r h l = grind (arith, pow_mono, div-eq_of_lt)
 
 -- k bits reversed, of which the top k - m are 0

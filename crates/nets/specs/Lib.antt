@@ -4,3 +4,4 @@ pub mod Places
 pub mod Points
 pub mod Refusals
 pub mod Plans
+pub mod Rounds

@@ -1,9 +1,9 @@
 //! All kinds of plan as one type, which is a plan too.
 ghost use Rattle.std.specs.Prelude.{◌≡◌};
-ghost use Rattle.plans.specs.Plans.{kind_of, level_of, places_of};
+ghost use Rattle.plans.specs.Plans.{kind_of, level_of, places_of, counts_of};
 
 use audit::PointList;
-use nets::{Level, Net, Place, PlaceFault};
+use nets::{Level, Net, Place, PlaceFault, Rounds};
 use sequences::{Hammersley, Sobol};
 
 /// A plan of any kind, with no layers.
@@ -67,6 +67,25 @@ impl Net for Plan {
             Plan::Hammersley(plan) => plan.place(i),
             Plan::Sobol(plan) => plan.place(i),
             Plan::Points(plan) => plan.place(i),
+        }
+    }
+}
+
+impl Rounds for Plan {
+    ghost counts = { counts_of };
+
+    fn counts_rounds(&self) -> bool {
+        match self {
+            Plan::Hammersley(_) | Plan::Points(_) => false,
+            Plan::Sobol(plan) => plan.counts_rounds(),
+        }
+    }
+
+    fn place_and_rounds(&self, i: u32) -> Result<(Place, Option<u32>), PlaceFault> {
+        match self {
+            Plan::Hammersley(plan) => Ok((plan.place(i)?, None)),
+            Plan::Sobol(plan) => plan.place_and_rounds(i),
+            Plan::Points(plan) => Ok((plan.place(i)?, None)),
         }
     }
 }

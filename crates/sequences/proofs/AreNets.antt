@@ -1,10 +1,10 @@
 -- The points of Hammersley and of Sobol are nets.
-use Rattle.std.proofs.Common.{◌≡◌, ℕ, ◌+◌, ◌-◌, ◌*◌, ◌/◌, ◌%◌, ◌^◌, ◌<◌, ◌≤◌, sym, ◌∙◌, div-add-mod', mul-add, arith}
+use Rattle.std.proofs.Common.{◌≡◌, ℕ, ◌+◌, ◌-◌, ◌*◌, ◌/◌, ◌%◌, ◌^◌, ◌<◌, ◌≤◌, get_or, sym, ◌∙◌, div-add-mod', mul-add, arith}
 use Rattle.nets.specs.Digits.{digit, word}
 use Rattle.nets.specs.Places.{IsNet}
 use Rattle.nets.specs.Sums.{total}
 use Rattle.nets.proofs.Counts.{total_add, total_same}
-use Rattle.nets.proofs.Points.{net_from_points, index_same}
+use Rattle.nets.proofs.Points.{point_at, net_from_points, index_same}
 use Rattle.nets.proofs.Words.{word_below, digit_below, digits_same, top_number}
 use Rattle.sequences.specs.Sequences.{binomial, hammersley, hammersley_net, sobol_bit, sobol, sobol_net}
 use Rattle.nets.proofs.Coordinates.{below, reversed_below, tops_same}
@@ -40,3 +40,7 @@ sobol_is_net m hm =
     let bits = tops_same m (m - d) (sobol_bit m i) (sobol_bit m j) (bit_below m i) (bit_below m j) (omega arith) (omega arith) s.y in
     let even = all_even m d (λ r. digit i r + digit j r) hd (λ r l. omega (arith, first r l)) (λ k l. bits_even m i j k (bits k l)) in
     index_same m i j hi hj (λ r l. omega (arith, even r l)))
+
+-- each by its index
+pub sobol_at : (m i : ℕ) → i < 2 ^ m → get_or (sobol_net m) i (0, 0) ≡ sobol m i
+sobol_at = point_at sobol

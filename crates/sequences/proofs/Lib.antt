@@ -1,3 +1,4 @@
 pub mod Pascal
 pub mod Columns
+pub mod Rounds
 pub mod AreNets
