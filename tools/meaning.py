@@ -48,6 +48,11 @@ def sobol(level, index):
     return x, y
 
 
+def rounds(index):
+    """The rounds in which Sobol's point is made: one for each digit up to the highest that is 1."""
+    return sum(1 for k in range(TOP_LEVEL) if 2**k <= index)
+
+
 FORMULAS = {"hammersley": hammersley, "sobol": sobol}
 
 
@@ -254,6 +259,7 @@ def test_plans(checks):
     checks.same([sobol(2, i) for i in range(4)], [(0, 0), (32768, 32768), (16384, 49152), (49152, 16384)])
     checks.same(sobol(3, 5), (40960, 8192))
     checks.same((hammersley(0, 0), sobol(0, 0)), ((0, 0), (0, 0)))
+    checks.same([rounds(i) for i in (0, 1, 2, 3, 4, 5, 8, 4095)], [0, 1, 2, 2, 3, 3, 4, 12])
     checks.same((scramble(4, 0), scramble(4, 32768)), (16384, 32768))
     checks.same((scramble(1, 12345), scramble(2, 0), scramble(2**63, 63488)), (12345, 32768, 64512))
     checks.same(Layers((1, 65535)).moved((0, 0)), (1, 65535))

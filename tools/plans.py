@@ -1,8 +1,10 @@
 #!/usr/bin/env python3
 """What `netplan` has to print of a plan, by the meaning of plans, layers and maps and not by the program.
 
-  plans.py PLAN.. [--csv | --bytes] [--coat JOB]  prints the places, each with its coat if a job is given
-  plans.py PLAN.. --figures JOB                   prints the level, the sum and the radius, with all places taken
+  plans.py PLAN.. [--csv] [--rounds] [--coat JOB]  prints the places, each with its rounds if they are wanted and with
+                                                   its coat if a job is given
+  plans.py PLAN.. --bytes                          prints them in bytes
+  plans.py PLAN.. --figures JOB                    prints the level, the sum and the radius, with all places taken
   plans.py --selftest
 
 PLAN is `hammersley M`, `sobol M`, `points FILE` or `job FILE`, and then, each if it is wanted, `shift S T`,
@@ -17,7 +19,7 @@ from pathlib import Path
 from checking import run_selftest
 from job_bytes import EXAMPLE, job, layers, places
 from job_reader import Refused, read_places
-from meaning import TOP_LEVEL, radius
+from meaning import TOP_LEVEL, radius, rounds
 from words import NoFile, Unread, exactly, listed, plan_below, read_file, read_layers, recipe_at, split_layers
 
 LONGEST_LIST = 4 * 2**TOP_LEVEL
@@ -31,20 +33,23 @@ class Faulty(Exception):
 
 
 def plan_of(words):
-    """The plan that words say."""
+    """The plan that words say, and the kind of plan below its layers."""
     below, layer_words = split_layers(words)
     moves = read_layers(layer_words)
     if below[:1] == ["points"]:
         plan = list_at(exactly(below, 2)[1], moves)
+        kind = plan.kind
     elif below[:1] == ["job"]:
         recipe = recipe_at(exactly(below, 2)[1])
         plan = listed(recipe.plan.places(), moves)
+        kind = recipe.plan.kind
     else:
         plan = plan_below(below, moves)
+        kind = plan.kind
     fault = plan.fault()
     if fault:
         raise Faulty(fault)
-    return plan
+    return plan, kind
 
 
 def list_at(path, moves):
@@ -60,22 +65,26 @@ def list_at(path, moves):
 # ---- forms ----------------------------------------------------------------------------------------------------
 
 
-def rows_of(plan, coats):
-    """The numbers of each line: a place, and its coat if there is a map."""
-    if coats is None:
-        return plan.places()
-    return [(*place, coat) for place, coat in zip(plan.places(), coats.coats(plan.places()))]
+def columns_of(plan, has_rounds, coats):
+    """The columns of a list by their names: the places, their rounds if they are wanted, and their coats if there is a
+    map."""
+    places = plan.places()
+    columns = {"x": [x for x, y in places], "y": [y for x, y in places]}
+    if has_rounds:
+        columns["rounds"] = [rounds(index) for index in range(len(places))]
+    if coats is not None:
+        columns["coat"] = coats.coats(places)
+    return columns
 
 
-def as_lines(rows):
+def as_lines(columns):
     """A place a line."""
-    return "".join(" ".join(map(str, row)) + "\n" for row in rows)
+    return "".join(" ".join(map(str, row)) + "\n" for row in zip(*columns.values()))
 
 
-def as_csv(rows):
+def as_csv(columns):
     """Comma-separated, with a head line."""
-    head = ("x", "y", "coat")[: len(rows[0])]
-    return "".join(",".join(map(str, row)) + "\n" for row in (head, *rows))
+    return "".join(",".join(map(str, row)) + "\n" for row in (columns, *zip(*columns.values())))
 
 
 def figures(plan, coats):
@@ -86,13 +95,15 @@ def figures(plan, coats):
 
 def printed(asked):
     """What is asked for, in bytes."""
-    plan = plan_of(asked.plan)
+    plan, kind = plan_of(asked.plan)
+    if asked.rounds and kind != "sobol":
+        raise Faulty("the plan counts no rounds")
     if asked.figures:
         return figures(plan, recipe_at(asked.figures).map).encode()
     if asked.bytes:
         return places(*plan.places())
-    rows = rows_of(plan, recipe_at(asked.coat).map if asked.coat else None)
-    return (as_csv(rows) if asked.csv else as_lines(rows)).encode()
+    columns = columns_of(plan, asked.rounds, recipe_at(asked.coat).map if asked.coat else None)
+    return (as_csv(columns) if asked.csv else as_lines(columns)).encode()
 
 
 # ---- the command line -----------------------------------------------------------------------------------------
@@ -108,6 +119,7 @@ def command_line():
     form.add_argument("--csv", action="store_true")
     form.add_argument("--bytes", action="store_true")
     form.add_argument("--figures", metavar="JOB")
+    parser.add_argument("--rounds", action="store_true")
     parser.add_argument("--coat", metavar="JOB")
     parser.add_argument("--selftest", action="store_true")
     return parser
@@ -138,6 +150,7 @@ def selftest(checks):
             "long": bytes(16388),
             "job": EXAMPLE,
             "moved.job": job(layer=layers(1, 65535, swap=1)),
+            "sobol.job": job(bytes((1, 1)), layers(swap=1)),
             "bad.job": EXAMPLE[:54],
         }.items():
             Path(room, name).write_bytes(data)
@@ -151,6 +164,16 @@ def selftest(checks):
         same(f"hammersley 2 --coat {room}/job", "0 0 3\n16384 32768 0\n32768 16384 0\n49152 49152 0\n")
         same(f"--csv --coat {room}/job hammersley 1", "x,y,coat\n0,0,3\n32768,32768,0\n")
         checks.same(answer("sobol 0 shift 1 32771 --bytes".split()), (b"\1\0\3\x80", "", 0))
+        same("sobol 2 --rounds", "0 0 0\n32768 32768 1\n16384 49152 2\n49152 16384 2\n")
+        same("sobol 1 shift 1 2 swap --csv --rounds", "x,y,rounds\n2,1,0\n32770,32769,1\n")
+        same(f"sobol 1 --rounds --coat {room}/job", "0 0 0 3\n32768 32768 1 0\n")
+        same(f"sobol 1 --csv --coat {room}/job --rounds", "x,y,rounds,coat\n0,0,0,3\n32768,32768,1,0\n")
+        same(f"job {room}/sobol.job shift 1 2 --rounds", "1 2 0\n32769 32770 1\n")
+        same("hammersley 2 --rounds", "", "netplan: the plan counts no rounds\n", 1)
+        same(f"points {room}/net --rounds", "", "netplan: the plan counts no rounds\n", 1)
+        same(f"job {room}/job --rounds --coat {room}/none", "", "netplan: the plan counts no rounds\n", 1)
+        same("sobol 13 --rounds", "", "netplan: refused 4 level 13\n", 1)
+        same(f"sobol 2 --rounds --coat {room}/none", "", "netplan: cannot read the file\n", 1)
         same(f"hammersley 2 --figures {room}/job", "level 2\nsum 3\nradius 9\n")
         same(f"points {room}/grid", "", "netplan: refused 13 depth 0 interval 1\n", 1)
         same(f"points {room}/odd", "", "netplan: refused 12 place 17\n", 1)

@@ -1,2 +1,3 @@
 pub mod Packed
 pub mod Drawn
+pub mod Told

@@ -28,8 +28,12 @@ pub fn write_dots<P: Net, M: CoatMap, W: Write>(
 {
     for place in Places::of(plan) {
         let coat = coat_at(map, place);
-        let form = Form::Lines;
-        let row = Row { form, place, coat };
+        let row = Row {
+            form: Form::Lines,
+            place,
+            rounds: None,
+            coat,
+        };
         output.writeln(Dot { row, radius })?;
     }
     Ok(())
@@ -43,7 +47,7 @@ struct Dot {
 }
 
 impl fmt::Display for Dot {
-    ghost output = { λ d. Some (dot_text d.radius d.row.form d.row.place d.row.coat) };
+    ghost output = { λ d. Some (dot_text d.radius d.row.form d.row.place d.row.rounds d.row.coat) };
 
     #[tactic(auto, unfolding(crate::specs::Dots::dot_text))]
     fn fmt<W: fmt::Write>(&self, f: &mut fmt::Formatter<W>) -> fmt::Result {

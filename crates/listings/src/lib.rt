@@ -16,6 +16,6 @@ mod shades;
 
 pub use bytes::write_bytes;
 pub use dots::write_dots;
-pub use lists::{Form, write_list};
+pub use lists::{Form, write_list, write_rounds};
 pub use picture::write_picture;
 pub use places::Places;

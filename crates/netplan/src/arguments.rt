@@ -25,6 +25,13 @@ pub(crate) fn command<'a>(program: Program, heap: Global) -> Result<Command<'a>,
     )
     .conflicts_with("svg")?;
     let svg = flag(heap, "svg", "Draws the panel with its places");
+    let rounds = flag(
+        heap,
+        "rounds",
+        "Adds the rounds in which each place is made, of a plan that counts them",
+    )
+    .conflicts_with("bytes")?
+    .conflicts_with("svg")?;
     let coat = Arg::new(heap, "coat")
         .long("coat")
         .value_name("JOB")
@@ -36,6 +43,7 @@ pub(crate) fn command<'a>(program: Program, heap: Global) -> Result<Command<'a>,
         .arg(csv)?
         .arg(bytes)?
         .arg(svg)?
+        .arg(rounds)?
         .arg(coat)
 }
 
@@ -48,13 +56,18 @@ fn flag<'a>(heap: Global, name: &'a str, help: &'a str) -> Arg<'a> {
 
 // How the places are to be written.
 pub(crate) fn form_of(matches: &ArgMatches<'_>) -> Form {
-    if matches.get_flag("csv") {
-        Form::List(listings::Form::Csv)
-    } else if matches.get_flag("bytes") {
+    let list = if matches.get_flag("csv") {
+        listings::Form::Csv
+    } else {
+        listings::Form::Lines
+    };
+    if matches.get_flag("bytes") {
         Form::Bytes
     } else if matches.get_flag("svg") {
         Form::Picture
+    } else if matches.get_flag("rounds") {
+        Form::Rounds(list)
     } else {
-        Form::List(listings::Form::Lines)
+        Form::List(list)
     }
 }

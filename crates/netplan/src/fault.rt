@@ -14,6 +14,8 @@ pub enum PlanFault {
     Page(PageFault),
     /// 12: a file of places has more bytes than the longest list has. Nobody has counted them.
     TooLong,
+    /// Rounds are wanted of a plan that counts none.
+    NoRounds,
 }
 
 impl PlanFault {
@@ -23,7 +25,7 @@ impl PlanFault {
     {
         match self {
             PlanFault::Page(PageFault::Words) => 2,
-            PlanFault::Page(_) | PlanFault::TooLong => 1,
+            PlanFault::Page(_) | PlanFault::TooLong | PlanFault::NoRounds => 1,
         }
     }
 }
@@ -35,6 +37,7 @@ impl fmt::Display for PlanFault {
         match self {
             PlanFault::Page(fault) => write!(f, "{fault}"),
             PlanFault::TooLong => write!(f, "refused 12 more than 16384 bytes"),
+            PlanFault::NoRounds => write!(f, "the plan counts no rounds"),
         }
     }
 }

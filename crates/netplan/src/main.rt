@@ -11,7 +11,7 @@ use clap::ArgMatches;
 use command_line::{Failure, Program, unless_gone, words};
 use fault::PlanFault;
 use maps::Map;
-use output::{Form, write_in};
+use output::{Form, check_rounds, write_in};
 use pages::read_job;
 use plan_words::{WordPlan, read_plan};
 use std::io;
@@ -52,8 +52,9 @@ fn main(rt: HostRuntime) -> ExitCode {
 fn run(rt: &HostRuntime) -> Result<u8, Failure> {
     let words = words(rt)?;
     let matches = command(PROGRAM, rt.alloc())?.try_get_matches_from(words.as_slice())?;
-    let sheet = read(rt, &matches);
-    answer(rt, sheet, form_of(&matches))
+    let form = form_of(&matches);
+    let sheet = read(rt, &matches, form);
+    answer(rt, sheet, form)
 }
 
 // Prints what is asked for, or tells why it cannot be had.
@@ -77,8 +78,9 @@ struct Sheet {
     map: Option<Map>,
 }
 
-fn read(rt: &HostRuntime, matches: &ArgMatches<'_>) -> Result<Sheet, PlanFault> {
+fn read(rt: &HostRuntime, matches: &ArgMatches<'_>, form: Form) -> Result<Sheet, PlanFault> {
     let plan = read_plan(rt, matches.get_strs("PLAN").unwrap_or(&[]))?;
+    check_rounds(form, &plan)?;
     let map = match matches.get_str("coat") {
         Some(path) => Some(read_job(rt, path)?.map),
         None => None,

@@ -3,3 +3,4 @@ pub mod Intervals
 pub mod Words
 pub mod Coordinates
 pub mod Points
+pub mod BitLengths

@@ -1,5 +1,6 @@
 -- The worked figures hold.
-use Rattle.std.proofs.Common.{◌≡◌, ℕ, zero, suc, rules, [], ◌∷◌, refl, MatchResult, Result, Ok, Err, inl, inr, arith, subst, sym, ap, ◌∙◌}
+use Rattle.std.proofs.Common.{◌≡◌, ℕ, zero, suc, ◌^◌, ◌<◌, ◌≤◌, pow_mono, rules, [], ◌∷◌, refl, MatchResult, Result, Ok, Err, inl, inr, arith, subst, sym, ap, ◌∙◌}
+use Rattle.nets.specs.Digits.{IsBitLength}
 use Rattle.nets.specs.Places.{Place, IsNet, count_in}
 use Rattle.nets.specs.Plans.{GivesPlace}
 use Rattle.nets.specs.Refusals.{place_told}
@@ -46,6 +47,13 @@ refused_grid (Err e) (inr (m, x)) =
     let is = grid_first x.d x.n first in
     x.tells ∙ ap (λ d. refused 13 (d ∷ x.n ∷ [])) is.0 ∙ ap (λ n. refused 13 (0 ∷ n ∷ [])) is.1
 
+-- whoever reaches a power of two reaches those below it
+reached : (i n k : ℕ) → k ≤ n → 2 ^ n ≤ i → 2 ^ k ≤ i
+reached i n k l h = let p : 2 ^ k ≤ 2 ^ n = pow_mono l in omega (arith, p)
+
+bit_length : (i n : ℕ) → ((k : ℕ) → k < n → 2 ^ k ≤ i) → i < 2 ^ n → IsBitLength i n
+bit_length i n r b = record { reaches = r; below = b }
+
 quarter_is_map : IsMap (boxes_terms (quarter ∷ []))
 quarter_is_map = record { sides = search rules; light = omega arith }
 
@@ -69,6 +77,9 @@ figures = record {
   past_the_last = past;
   sobol_2 = refl;
   sobol_3 = refl;
+  rounds_0 = bit_length 0 0 (λ k h. absurd (omega arith)) (omega arith);
+  rounds_5 = bit_length 5 3 (λ k h. reached 5 2 k (omega arith) (omega arith)) (omega arith);
+  rounds_4095 = bit_length 4095 12 (λ k h. reached 4095 11 k (omega arith) (omega arith)) (omega arith);
   scramble_low = refl;
   scramble_high = refl;
   shift = refl;

@@ -1,6 +1,7 @@
 -- The worked figures.
 use Rattle.std.specs.Prelude.{◌≡◌, ℕ, List, [], ◌∷◌, pos, MatchResult, Result}
 use Rattle.nets.specs.declared.level.TheConstants.{MOST_PLACES}
+use Rattle.nets.specs.Digits.{IsBitLength}
 use Rattle.nets.specs.Places.{Place}
 use Rattle.nets.specs.Plans.{GivesPlace}
 use Rattle.nets.specs.Refusals.{place_told}
@@ -83,6 +84,9 @@ pub record Figures : Type 0 where
       MatchResult r (λ _. ⊥) (λ e. place_told e ≡ refused 11 (4 ∷ []))
   pub sobol_2 : sobol_net 2 ≡ (0, 0) ∷ (32768, 32768) ∷ (16384, 49152) ∷ (49152, 16384) ∷ []
   pub sobol_3 : sobol 3 5 ≡ (40960, 8192)
+  pub rounds_0 : IsBitLength 0 0
+  pub rounds_5 : IsBitLength 5 3
+  pub rounds_4095 : IsBitLength 4095 12
   pub scramble_low : scramble_of 4 0 ≡ 16384
   pub scramble_high : scramble_of 4 32768 ≡ 32768
   pub shift : shift_of 1 65535 (0, 0) ≡ (1, 65535)
