@@ -378,7 +378,7 @@ def owner(crate, impl):
     trait, target = head_of(impl)
     for item in crate.types():
         if item.kind == "type" and item.module == impl.module:
-            if item.signature.partition(" = ")[2] == target:
+            if target in (item.name, item.signature.partition(" = ")[2]):
                 return item
     for name in (bare(target), bare(trait)):
         for item in crate.types():
@@ -738,6 +738,12 @@ pub struct Low<'a, P: Net> {
 /// A pair.
 pub type Pair = (u8, u8);
 
+impl Net for Pair {
+    fn level(&self) -> u8 {
+        self.0
+    }
+}
+
 /// 9: it is "not low".
 #[derive(Debug)]
 pub struct Fault(pub u8);
@@ -866,6 +872,8 @@ A pair.
 
 ```rust
 pub type Pair = (u8, u8);
+
+impl Net for Pair { .. }
 ```
 
 ### `Net`
@@ -880,7 +888,7 @@ pub trait Net {
 
 - `level`: The level.
 
-Types that have it: `Low`.
+Types that have it: [`Pair`](#pair), `Low`.
 
 ### `Deep`
 

@@ -1,6 +1,7 @@
 //! Places written out: into memory, and into writers that take so many bytes and then fail.
 use boxes::{BoxRow, Boxes};
-use listings::{Form, write_bytes, write_list, write_picture};
+use listings::{Form, write_bytes, write_list, write_picture, write_rounds};
+use plans::Plan;
 use sequences::{Hammersley, Sobol};
 use std::io;
 use std::io::{ErrorKind, Write};
@@ -64,6 +65,24 @@ fn lists(rt: HostRuntime) -> Result<(), Fail> {
     Ok(())
 }
 
+#[test]
+fn lists_with_rounds(rt: HostRuntime) -> Result<(), Fail> {
+    let map = quarter()?;
+    let mut text = Vec::new(rt.alloc());
+    write_rounds(&Sobol::new(2)?, Some(&map), Form::Csv, &mut text)?;
+    assert_eq!(rt;
+        text.as_slice(),
+        b"x,y,rounds,coat\n0,0,0,-3\n32768,32768,1,0\n16384,49152,2,0\n49152,16384,2,0\n"
+            .as_slice()
+    );
+    text.clear();
+    // A plan that counts no rounds has no column of them.
+    let plan = Plan::Hammersley(Hammersley::new(1)?);
+    write_rounds(&plan, None::<&Boxes>, Form::Csv, &mut text)?;
+    assert_eq!(rt; text.as_slice(), b"x,y\n0,0\n32768,32768\n".as_slice());
+    Ok(())
+}
+
 // Whoever has room for all of it is told of no error, and whoever has less is told of its own.
 fn fails_below<F: Fn(&mut Room) -> io::Result<()>>(rt: &impl Abort, size: usize, write: F)
     requires { F.IsAlwaysCallable write }
@@ -88,6 +107,11 @@ fn full_writers(rt: HostRuntime) -> Result<(), Fail> {
         &rt,
         49,
         |room| write_list(&plan, Some(&map), Form::Lines, room),
+    );
+    fails_below(
+        &rt,
+        57,
+        |room| write_rounds(&plan, Some(&map), Form::Lines, room),
     );
     fails_below(&rt, 16, |room| write_bytes(&plan, room));
     Ok(())

@@ -1,4 +1,5 @@
 pub mod Pascal
 pub mod Columns
 pub mod Rounds
+pub mod Tables
 pub mod AreNets

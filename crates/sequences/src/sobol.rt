@@ -1,7 +1,8 @@
 //! The first two coordinates of the sequence of Sobol (1967), in natural order.
-ghost use Rattle.std.specs.Prelude.{◌≡◌, ◌/◌, bit_xor, true, IfOk};
+ghost use Rattle.std.specs.Prelude.{◌≡◌, ◌-◌, ◌*◌, ◌^◌, ◌<◌, true, IfOk};
 ghost use Rattle.nets.specs.Digits.{IsBitLength};
 ghost use Rattle.nets.specs.Plans.{ChecksIndex};
+ghost use Rattle.sequences.specs.Columns.{column};
 ghost use Rattle.sequences.specs.Sequences.{sobol};
 
 use crate::index::Index;
@@ -16,42 +17,52 @@ pub struct SobolPoints;
 /// The plan of Sobol's points.
 pub type Sobol = Sequence<SobolPoints>;
 
-// The column after this one, by Pascal's rule modulo 2.
-fn next_column(column: u16) -> u16
-    ensures { result ≡ bit_xor column (column / 2) }
+// What the digit with weight 2^r adds to x and to y, r from 0: first where it is 0, and then where it is 1. Bit k of
+// the last number from the top is C(r, k) modulo 2.
+static DIGITS: [[Place; 2]; 12] = [
+    [(0, 0), (0x8000, 0x8000)],
+    [(0, 0), (0x4000, 0xC000)],
+    [(0, 0), (0x2000, 0xA000)],
+    [(0, 0), (0x1000, 0xF000)],
+    [(0, 0), (0x0800, 0x8800)],
+    [(0, 0), (0x0400, 0xCC00)],
+    [(0, 0), (0x0200, 0xAA00)],
+    [(0, 0), (0x0100, 0xFF00)],
+    [(0, 0), (0x0080, 0x8080)],
+    [(0, 0), (0x0040, 0xC0C0)],
+    [(0, 0), (0x0020, 0xA0A0)],
+    [(0, 0), (0x0010, 0xF0F0)],
+];
+
+// What a digit of the index adds to its point.
+#[tactic(auto, using(crate::proofs::Tables::entries))]
+fn added_by(r: u32, digit: u32) -> Place
+    requires { (r < 12) × (digit < 2) }
+    ensures x { result.0 ≡ digit * 2 ^ (15 - r) }
+    ensures y { result.1 ≡ digit * column r }
 {
-    column ^ (column >> 1)
+    DIGITS[r as usize][digit as usize]
 }
 
-// The XOR of the columns of the set digits of an index, and how many rounds the loop ran, which ends when no set
-// digit is left.
-#[tactic(auto, using(crate::proofs::Columns::columns, crate::proofs::Rounds::rounds))]
-fn xor_of_columns(index: Index) -> (u16, u32)
-    ensures value { result.0 ≡ (sobol index.level.m index.i).1 }
+// The point at an index, and how many rounds the loop ran, which ends when no set digit is left.
+#[tactic(auto, using(crate::proofs::Rounds::rounds))]
+fn point_in_rounds(index: Index) -> (Place, u32)
+    ensures x { result.0.0 ≡ (sobol index.level.m index.i).0 }
+    ensures y { result.0.1 ≡ (sobol index.level.m index.i).1 }
     ensures rounds { IsBitLength index.i result.1 }
 {
-    let mut column: u16 = 0x8000;
+    let mut x: u16 = 0;
     let mut y: u16 = 0;
     let mut rounds = 0;
     let mut rest = index.i;
     while rest != 0 {
-        if rest % 2 == 1 {
-            y ^= column;
-        }
-        column = next_column(column);
+        let (bit, column) = added_by(rounds, rest % 2);
+        x ^= bit;
+        y ^= column;
         rounds += 1;
         rest /= 2;
     }
-    (y, rounds)
-}
-
-// The point at an index, and the rounds in which it is made.
-fn point_in_rounds(index: Index) -> (Place, u32)
-    ensures point { result.0 ≡ sobol index.level.m index.i }
-    ensures rounds { IsBitLength index.i result.1 }
-{
-    let (y, rounds) = xor_of_columns(index);
-    ((index.reversed(), y), rounds)
+    ((x, y), rounds)
 }
 
 impl PointFormula for SobolPoints {
