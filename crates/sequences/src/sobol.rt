@@ -41,7 +41,9 @@ fn added_by(r: u32, digit: u32) -> Place
     ensures x { result.0 ≡ digit * 2 ^ (15 - r) }
     ensures y { result.1 ≡ digit * column r }
 {
-    DIGITS[r as usize][digit as usize]
+    // Read one by one: a pair that is read whole is taken apart again, which is slower.
+    let (bit, column) = DIGITS[r as usize][digit as usize];
+    (bit, column)
 }
 
 // The point at an index, and how many rounds the loop ran, which ends when no set digit is left.
