@@ -47,7 +47,7 @@ CHARACTER = r"'(?:\\u\{\w+\}|\\.|[^\\'\n])'"
 HIDDEN = re.compile(f"{COMMENT}|{STRING}|{CHARACTER}", re.DOTALL)
 ITEM = re.compile(
     r"(?P<public>pub(?:\(\w+\))? )?(?:const (?=fn\b)|unsafe )?"
-    r"(?P<kind>fn|struct|enum|trait|const|type|impl|mod|use)\b\s*(?P<name>\w*)"
+    r"(?P<kind>fn|struct|enum|trait|const|static|type|impl|mod|use)\b\s*(?P<name>\w*)"
 )
 CLAUSE = re.compile(r"(?:requires|ensures|ghost)\b")
 
@@ -160,7 +160,7 @@ class Source:
             raise ValueError(f"{self.place(at)}: this is no known item")
         item = Item(match["kind"], match["name"], match["public"] == "pub ",
                     self.place(at), text, attributes)
-        if item.kind in ("const", "type", "use", "mod"):
+        if item.kind in ("const", "static", "type", "use", "mod"):
             end = self.find(at, ";")
             written_out = self.mask.find("{", at, end)
             if item.kind == "mod" and written_out >= 0:
@@ -724,6 +724,8 @@ use std::error::Error;
 
 /// The lowest, of [`Least`](crate::Least).
 pub const LOWEST: [u8; 2] = [b'{', 1];
+
+static TABLE: [[u8; 2]; 1] = [[1, 2]];
 
 /// A low number; see [`check`].
 #[derive(Clone, Copy)]

@@ -145,13 +145,13 @@ def run(command, path):
         return subprocess.run(command, stdin=stdin, capture_output=True, env={"PATH": os.environ["PATH"]}, check=False)
 
 
-def instructions(program, path):
+def instructions(command, path):
     """How many instructions a program takes on an input, and what it prints."""
     counter = ["valgrind", "--tool=cachegrind", "--cache-sim=no", "--cachegrind-out-file=/dev/null"]
-    ran = run([*counter, program], path)
+    ran = run([*counter, *command], path)
     refs = re.search(rb"I +refs: +([\d,]+)", ran.stderr)
     if not refs:
-        sys.exit(f"speed.py: valgrind counts nothing of {program}:\n{ran.stderr.decode(errors='replace')}")
+        sys.exit(f"speed.py: valgrind counts nothing of {command[0]}:\n{ran.stderr.decode(errors='replace')}")
     count = refs[1]
     return int(count.replace(b",", b"")), ran.stdout.decode()
 
@@ -171,7 +171,7 @@ class Measured:
         self.best = {}
         for name, (program, path, text) in files.items():
             for build in builds[program]:
-                count, told = instructions(build, path)
+                count, told = instructions([build], path)
                 if told != text:
                     sys.exit(f"speed.py: {build} on {name}:\n{told}and not\n{text}")
                 self.counts[build, name] = count - self.of_no_input(build)
@@ -180,7 +180,7 @@ class Measured:
     def of_no_input(self, build):
         """The instructions of a build on no input, counted once."""
         if (build, None) not in self.counts:
-            self.counts[build, None] = instructions(build, os.devnull)[0]
+            self.counts[build, None] = instructions([build], os.devnull)[0]
         return self.counts[build, None]
 
     def count(self, name):
