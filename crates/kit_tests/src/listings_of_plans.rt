@@ -72,8 +72,7 @@ fn lists_with_rounds(rt: HostRuntime) -> Result<(), Fail> {
     write_rounds(&Sobol::new(2)?, Some(&map), Form::Csv, &mut text)?;
     assert_eq!(rt;
         text.as_slice(),
-        b"x,y,rounds,coat\n0,0,0,-3\n32768,32768,1,0\n16384,49152,2,0\n49152,16384,2,0\n"
-            .as_slice()
+        b"x,y,rounds,coat\n0,0,0,-3\n32768,32768,1,0\n16384,49152,2,0\n49152,16384,2,0\n".as_slice()
     );
     text.clear();
     // A plan that counts no rounds has no column of them.

@@ -31,7 +31,7 @@ fn sobol_ends(rt: HostRuntime) -> Result<(), Fail> {
     Ok(())
 }
 
-// At the ends of each count of digits: 2^12 - 1 has twelve, 2^11 too, and 2^11 - 1 eleven.
+// At the ends of few digits and of many: 2^11 - 1 has eleven, and 2^11 and 2^12 - 1 have twelve.
 #[test]
 fn rounds(rt: HostRuntime) -> Result<(), Fail> {
     let plan = Sobol::new(12)?;
@@ -48,7 +48,14 @@ fn rounds(rt: HostRuntime) -> Result<(), Fail> {
     ] {
         assert_eq!(rt; plan.place_in_rounds(i), Ok((plan.place(i)?, rounds)));
     }
+    assert_eq!(rt; plan.place_in_rounds(2048), Ok(((16, 61680), 12)));
+    assert_eq!(rt; plan.place_in_rounds(4095), Ok(((65520, 4368), 12)));
     assert_eq!(rt; Sobol::new(3)?.place_in_rounds(5), Ok(((40960, 8192), 3)));
+    assert_eq!(rt; Sobol::new(0)?.place_in_rounds(0), Ok(((0, 0), 0)));
+    assert_eq!(rt;
+        Sobol::new(0)?.place_in_rounds(1),
+        Err(PlaceFault::NoPlace(1))
+    );
     for past in [4096, u32::MAX] {
         assert_eq!(rt; plan.place_in_rounds(past), Err(PlaceFault::NoPlace(past)));
         assert_eq!(rt; plan.place_and_rounds(past), Err(PlaceFault::NoPlace(past)));

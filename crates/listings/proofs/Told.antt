@@ -14,6 +14,7 @@ use Rattle.nets.proofs.BitLengths.{has_bit_length, bit_length_same}
 use Rattle.listings.specs.Lists.{head_of, place_text, line_of, AppendsRounds}
 use Rattle.listings.specs.declared.lists.Form.{Form}
 
+-- the rounds that are told of an index
 abbrev pub rounds_of : (counts : Bool) (i : ℕ) → Option ℕ
 rounds_of true i = Some (has_bit_length i).0
 rounds_of false i = None
@@ -22,12 +23,14 @@ pub rounds_told : (counts : Bool) (i : ℕ) → TellsRounds counts i (rounds_of 
 rounds_told true i = (has_bit_length i).1
 rounds_told false i = tt
 
+-- and nothing else may be told of it
 pub rounds_same : (counts : Bool) (i : ℕ) (r : Option ℕ) → TellsRounds counts i r → r ≡ rounds_of counts i
 rounds_same true i (Some n) h = ap Some (bit_length_same i n (has_bit_length i).0 h (has_bit_length i).1)
 rounds_same true i None h = absurd h
 rounds_same false i (Some n) h = absurd h
 rounds_same false i None h = refl
 
+-- a number more at the end
 range_more : (a n : ℕ) → range_with_len a (suc n) ≡ range_with_len a n ++ (a + n) ∷ []
 range_more a zero = let e : a + 0 ≡ a = omega arith in rw e refl
 range_more a (suc n) = let e : (a + 1) + n ≡ a + suc n = omega arith in ap (λ xs. a ∷ xs) (range_more (a + 1) n ∙ ap (λ z. range_with_len (a + 1) n ++ z ∷ []) e)

@@ -25,17 +25,17 @@ head_of Csv false true = codes "x,y,coat\n"
 head_of Csv true false = codes "x,y,rounds\n"
 head_of Csv true true = codes "x,y,rounds,coat\n"
 
--- a further number on the line of a place, if it is told
-abbrev pub column_of : Form → Option (List ℕ) → List (List ℕ)
-column_of form None = []
-column_of form (Some number) = separator_of form ∷ number ∷ []
+-- a further number on the line of a place, after a separator, if it is told
+abbrev pub further_column : Form → Option (List ℕ) → List (List ℕ)
+further_column form None = []
+further_column form (Some number) = separator_of form ∷ number ∷ []
 
 -- x and y of a place, the rounds in which it is made, and the coat there, each of the two if it is told
 abbrev pub place_text : Form → Place → (rounds : Option ℕ) (coat : Option ℤ) → List ℕ
 place_text form p rounds coat =
     text_of (
     decimal p.0 ∷ separator_of form ∷ decimal p.1
-    ∷ column_of form (option_map decimal rounds) ++ column_of form (option_map signed_decimal coat)
+    ∷ further_column form (option_map decimal rounds) ++ further_column form (option_map signed_decimal coat)
     )
 
 -- a place on a line of its own, with the coat that terms give it, if there are terms

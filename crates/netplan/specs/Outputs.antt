@@ -1,5 +1,5 @@
 -- What is written of a plan.
-use Rattle.std.specs.Prelude.{◌≡◌, ℕ, List, Bool, true, false, not, ◌&&◌, Ok, Err, Result, Option}
+use Rattle.std.specs.Prelude.{◌≡◌, ℕ, List, Bool, true, false, not, Ok, Err, Result, Option}
 use Rattle.std.specs.Io.KnownBytes.{Appends}
 use Rattle.nets.specs.Places.{Place}
 use Rattle.coats.specs.declared.term.Term.{Term}
@@ -18,7 +18,7 @@ abbrev pub lacks_rounds : Form → (counts : Bool) → Bool
 lacks_rounds (form.Rounds f) counts = not counts
 lacks_rounds _ counts = false
 
--- that is refused, and nothing else
+-- refused exactly if they are
 abbrev pub ChecksRounds : {X : Type 0} → Form → (counts : Bool) → Result X PlanFault → Type 0
 ChecksRounds f counts (Ok _) = lacks_rounds f counts ≡ false
 ChecksRounds f counts (Err e) = (lacks_rounds f counts ≡ true) × (e ≡ NoRounds)

@@ -64,15 +64,6 @@ word_pad n (suc k) b l h =
     subst (λ n. word (suc k) b ≡ word n b * 2 ^ (suc k - n)) (sym z) (let w : suc k - suc k ≡ 0 = omega arith in subst (λ z. word (suc k) b ≡ word (suc k) b * 2 ^ z) (sym w) (omega arith)))
     (cases_lt n (suc k))
 
--- a zero in front
-abbrev pub later : (ℕ → ℕ) → ℕ → ℕ
-later b zero = 0
-later b (suc k) = b k
-
-pub word_later : (n : ℕ) (b : ℕ → ℕ) → word (suc n) (later b) ≡ word n b
-word_later zero b = refl
-word_later (suc n) b = omega (arith, word_later n b)
-
 differ_sum : (a b : ℕ) → a < 2 → b < 2 → differ a b ≡ (a + b) % 2
 differ_sum zero zero h l = refl
 differ_sum zero (suc zero) h l = refl

@@ -6,7 +6,8 @@ ghost use Rattle.nets.specs.Rounds.{TellsRounds};
 use crate::faults::PlaceFault;
 use crate::net::{Net, Place};
 
-/// A plan that may count the rounds in which it makes a place, as Sobol's does.
+/// A plan that may count the rounds in which it makes a place: as many as the index has binary digits up to the
+/// highest that is 1.
 pub trait Rounds: Net {
     ghost counts: { Self → Bool };
 
@@ -14,8 +15,7 @@ pub trait Rounds: Net {
     fn counts_rounds(&self) -> bool
         ensures { result ≡ counts self.now };
 
-    /// The place at an index and, if they are counted, the rounds in which it is made: one for each binary digit
-    /// of the index up to the highest that is 1.
+    /// The place at an index and, if they are counted, the rounds in which it is made.
     ///
     /// # Errors
     /// 11 for an index of 2^m or more.

@@ -41,6 +41,6 @@ sobol_is_net m hm =
     let even = all_even m d (λ r. digit i r + digit j r) hd (λ r l. omega (arith, first r l)) (λ k l. bits_even m i j k (bits k l)) in
     index_same m i j hi hj (λ r l. omega (arith, even r l)))
 
--- each by its index
+-- the place at an index is Sobol's point there
 pub sobol_at : (m i : ℕ) → i < 2 ^ m → get_or (sobol_net m) i (0, 0) ≡ sobol m i
 sobol_at = point_at sobol

@@ -1,9 +1,9 @@
 //! The first two coordinates of the sequence of Sobol (1967), in natural order.
-ghost use Rattle.std.specs.Prelude.{◌≡◌, ◌-◌, ◌*◌, ◌^◌, ◌<◌, true, IfOk};
+ghost use Rattle.std.specs.Prelude.{◌≡◌, ◌-◌, ◌*◌, ◌^◌, ◌<◌, true, IfOk, slice_index_or};
 ghost use Rattle.nets.specs.Digits.{IsBitLength};
 ghost use Rattle.nets.specs.Plans.{ChecksIndex};
 ghost use Rattle.sequences.specs.Columns.{column};
-ghost use Rattle.sequences.specs.Sequences.{sobol};
+ghost use Rattle.sequences.specs.Sequences.{sobol, sobol_net};
 
 use crate::index::Index;
 use crate::sequence::{PointFormula, Sequence};
@@ -73,8 +73,7 @@ impl PointFormula for SobolPoints {
     fn show_net(_level: Level) {}
 
     fn point(index: Index) -> Place {
-        let (point, _rounds) = point_in_rounds(index);
-        point
+        point_in_rounds(index).0
     }
 }
 
@@ -84,9 +83,10 @@ impl Sobol {
     ///
     /// # Errors
     /// 11 for an index of 2^m or more.
+    #[tactic(auto, using(crate::proofs::AreNets::sobol_at))]
     pub fn place_in_rounds(&self, i: u32) -> Result<(Place, u32), PlaceFault>
         ensures refusal { ChecksIndex self.now.level.m i result }
-        ensures place { IfOk result (λ r. r.0 ≡ sobol self.now.level.m i) }
+        ensures place { IfOk result (λ r. r.0 ≡ slice_index_or (sobol_net self.now.level.m) i (0, 0)) }
         ensures rounds { IfOk result (λ r. IsBitLength i r.1) }
     {
         let index = Index::new(self.level(), i)?;
@@ -101,7 +101,6 @@ impl Rounds for Sobol {
         true
     }
 
-    #[tactic(auto, using(crate::proofs::AreNets::sobol_at))]
     fn place_and_rounds(&self, i: u32) -> Result<(Place, Option<u32>), PlaceFault> {
         let (place, rounds) = self.place_in_rounds(i)?;
         Ok((place, Some(rounds)))

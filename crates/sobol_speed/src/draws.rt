@@ -1,5 +1,5 @@
 //! Indexes that are drawn, and the sum over the places at them.
-ghost use Rattle.std.specs.Prelude.{◌≡◌, IfOk};
+ghost use Rattle.std.specs.Prelude.{◌≡◌, ◌^◌, ◌<◌, ◌≤◌, IfOk, IsOk};
 ghost use Rattle.sobol_speed.specs.Draws.{state_from, index_of, sum_with, sum_over};
 
 use nets::{Level, Net, Place, PlaceFault};
@@ -13,8 +13,10 @@ fn next_state(state: u32) -> u32
 }
 
 // The index of so many bits that a state draws.
+#[tactic(auto, using(crate::proofs::Indexes::below))]
 fn drawn_index(bits: Level, state: u32) -> u32
-    ensures { result ≡ index_of bits.m state }
+    ensures value { result ≡ index_of bits.m state }
+    ensures bound { result < 2 ^ bits.m }
 {
     (u64::from(state) >> (32 - bits.get())) as u32
 }
@@ -32,9 +34,10 @@ fn with_place(sum: u32, place: Place) -> u32
 ///
 /// # Errors
 /// 11 for an index that the plan does not have.
-#[tactic(auto, using(sequences::proofs::AreNets::sobol_at))]
+#[tactic(auto, using(sequences::proofs::AreNets::sobol_at, std::proofs::Common::pow_mono))]
 pub fn sum_of_places(plan: &Sobol, bits: Level, count: u32) -> Result<u32, PlaceFault>
-    ensures { IfOk result (λ sum. sum ≡ sum_over plan.now.level.m bits.m count) }
+    ensures sum { IfOk result (λ sum. sum ≡ sum_over plan.now.level.m bits.m count) }
+    ensures drawn { bits.m ≤ plan.now.level.m → IsOk result }
 {
     let mut state = 0;
     let mut sum = 0;

@@ -51,9 +51,6 @@ refused_grid (Err e) (inr (m, x)) =
 reached : (i n k : ℕ) → k ≤ n → 2 ^ n ≤ i → 2 ^ k ≤ i
 reached i n k l h = let p : 2 ^ k ≤ 2 ^ n = pow_mono l in omega (arith, p)
 
-bit_length : (i n : ℕ) → ((k : ℕ) → k < n → 2 ^ k ≤ i) → i < 2 ^ n → IsBitLength i n
-bit_length i n r b = record { reaches = r; below = b }
-
 quarter_is_map : IsMap (boxes_terms (quarter ∷ []))
 quarter_is_map = record { sides = search rules; light = omega arith }
 
@@ -77,9 +74,9 @@ figures = record {
   past_the_last = past;
   sobol_2 = refl;
   sobol_3 = refl;
-  rounds_0 = bit_length 0 0 (λ k h. absurd (omega arith)) (omega arith);
-  rounds_5 = bit_length 5 3 (λ k h. reached 5 2 k (omega arith) (omega arith)) (omega arith);
-  rounds_4095 = bit_length 4095 12 (λ k h. reached 4095 11 k (omega arith) (omega arith)) (omega arith);
+  rounds_0 = record { reaches = λ k h. absurd (omega arith); below = omega arith };
+  rounds_5 = record { reaches = λ k h. reached 5 2 k (omega arith) (omega arith); below = omega arith };
+  rounds_4095 = record { reaches = λ k h. reached 4095 11 k (omega arith) (omega arith); below = omega arith };
   scramble_low = refl;
   scramble_high = refl;
   shift = refl;
