@@ -37,19 +37,16 @@ def plan_of(words):
     below, layer_words = split_layers(words)
     moves = read_layers(layer_words)
     if below[:1] == ["points"]:
-        plan = list_at(exactly(below, 2)[1], moves)
-        kind = plan.kind
+        lowest = plan = list_at(exactly(below, 2)[1], moves)
     elif below[:1] == ["job"]:
-        recipe = recipe_at(exactly(below, 2)[1])
-        plan = listed(recipe.plan.places(), moves)
-        kind = recipe.plan.kind
+        lowest = recipe_at(exactly(below, 2)[1]).plan
+        plan = listed(lowest.places(), moves)
     else:
-        plan = plan_below(below, moves)
-        kind = plan.kind
+        lowest = plan = plan_below(below, moves)
     fault = plan.fault()
     if fault:
         raise Faulty(fault)
-    return plan, kind
+    return plan, lowest.kind
 
 
 def list_at(path, moves):

@@ -156,14 +156,14 @@ def time_table(columns, times):
     programs = [(column, build) for column, builds in columns.items() for build in builds]
     runs = {(drawn, *program): [] for drawn in DRAWN for program in programs}
     for _ in range(times):
-        for (drawn, column, build), rounds in runs.items():
+        for (drawn, column, build), pairs in runs.items():
             many, told = seconds(command(build, drawn, TIMED))
             printed(build, told, text_of(column, drawn, TIMED))
-            rounds.append((many, seconds(command(build, drawn, 0))[0]))
+            pairs.append((many, seconds(command(build, drawn, 0))[0]))
     spread = []
     taken = {(drawn, column): [] for drawn in DRAWN for column in columns}
-    for (drawn, column, _), rounds in runs.items():
-        many, none = zip(*rounds)
+    for (drawn, column, _), pairs in runs.items():
+        many, none = zip(*pairs)
         taken[drawn, column].append(min(many) - min(none))
         spread += [each / min(many) - 1 for each in many]
     rows = [
